@@ -1,0 +1,3 @@
+pub mod TestLaws
+pub mod LowestLaws
+pub mod PlaceLaws

@@ -1,0 +1,140 @@
+-- Laws of the lowest position that passes a test.
+use Prim.Native.Nat.{ℕ, zero, suc, _+_, _-_, _≤_, _<_}
+use mathlib.Core.Path.{_≡_, refl, sym, ap, _∙_}
+use mathlib.Core.Bool.{Bool, true, false}
+use native.Mathlib.Omega.{arith}
+use native.Mathlib.Numerals.{add-one}
+use native.Mathlib.Decide.{decLe, decLt}
+use lib.Dec.{ltb}
+use borrow.Author.Tests.{ltb-true, ltb-false, lt-ltb, le-ltb}
+use Rattle.base.specs.Tests.{pick}
+use Rattle.base.specs.Lowest.{lowestFrom, lowest, someBelow}
+use Rattle.base.proofs.TestLaws.{cases, pick-true, pick-false, both-absurd}
+
+-- the search at a position that passes, at one that does not, and at the end
+found-in : (test : ℕ → Bool) (i c : ℕ) → 0 < c → test i ≡ true → lowestFrom test i c ≡ i
+unfolding lowestFrom
+found-in test i zero h e = absurd (omega arith)
+found-in test i (suc c) h e = pick-true (test i) i (lowestFrom test (suc i) c) e
+
+pub from-found : (test : ℕ → Bool) (i n : ℕ) → i < n → test i ≡ true → lowestFrom test i (n - i) ≡ i
+from-found test i n l e = found-in test i (n - i) (omega arith) e
+
+passed-in : (test : ℕ → Bool) (i b c : ℕ) → c ≡ suc b → test i ≡ false → lowestFrom test (suc i) b ≡ lowestFrom test i c
+unfolding lowestFrom
+passed-in test i b c h e = rw h (sym (pick-false (test i) i (lowestFrom test (suc i) b) e))
+
+pub from-passed : (test : ℕ → Bool) (i n : ℕ) → i < n → test i ≡ false → lowestFrom test (i + 1) (n - (i + 1)) ≡ lowestFrom test i (n - i)
+from-passed test i n l e = rw add-one (passed-in test i (n - suc i) (n - i) (omega arith) e)
+
+none-in : (test : ℕ → Bool) (n c : ℕ) → c ≡ 0 → lowestFrom test n c ≡ n
+unfolding lowestFrom
+none-in test n c h = rw h
+
+pub from-end : (test : ℕ → Bool) (n : ℕ) → lowestFrom test n (n - n) ≡ n
+from-end test n = none-in test n (n - n) (omega arith)
+
+pub from-start : (test : ℕ → Bool) (n : ℕ) → lowestFrom test 0 (n - 0) ≡ lowest test n
+unfolding lowest
+from-start test n = let e : n - 0 ≡ n = omega arith in rw e
+
+-- what lowestFrom finds is in its range
+from-within : (test : ℕ → Bool) (i c : ℕ) → lowestFrom test i c ≤ i + c
+unfolding lowestFrom
+from-within test i zero = omega arith
+from-within test i (suc c) =
+    cases (test i) (λ e. rw e (omega arith)) (λ e. rw e (omega (arith, from-within test (suc i) c)))
+
+pub within : (test : ℕ → Bool) (n : ℕ) → lowest test n ≤ n
+unfolding lowest
+within test n = omega (arith, from-within test 0 n)
+
+-- nothing before what is found passes
+from-before : (test : ℕ → Bool) (i c k : ℕ) → i ≤ k → k < lowestFrom test i c → test k ≡ false
+unfolding lowestFrom
+from-before test i zero k l h = absurd (omega arith)
+from-before test i (suc c) k l h =
+    cases (test i)
+    (λ e. let h₂ : k < i = rw e at h in absurd (omega arith))
+    (λ e.
+    let h₂ : k < lowestFrom test (suc i) c = rw e at h in
+    elim (decLe (suc i) k) [ yes q ↦ from-before test (suc i) c k q h₂ | no q ↦ let s : i ≡ k = omega arith in rw (← s) e ])
+
+pub before : (test : ℕ → Bool) (n k : ℕ) → k < lowest test n → test k ≡ false
+unfolding lowest
+before test n k h = from-before test 0 n k (omega arith) h
+
+-- what is found below the end passes
+from-passes : (test : ℕ → Bool) (i c : ℕ) → lowestFrom test i c < i + c → test (lowestFrom test i c) ≡ true
+unfolding lowestFrom
+from-passes test i zero h = absurd (omega arith)
+from-passes test i (suc c) h =
+    cases (test i)
+    (λ e. rw e e)
+    (λ e.
+    let h₂ : lowestFrom test (suc i) c < i + suc c = rw e at h in
+    rw e (from-passes test (suc i) c (omega arith)))
+
+pub passes : (test : ℕ → Bool) (n : ℕ) → lowest test n < n → test (lowest test n) ≡ true
+unfolding lowest
+passes test n h = from-passes test 0 n (omega arith)
+
+-- where none passes, the end is found
+pub none-passes : (test : ℕ → Bool) (n : ℕ) → ((k : ℕ) → k < n → test k ≡ false) → lowest test n ≡ n
+none-passes test n h =
+    elim (decLt (lowest test n) n) [
+      | yes l ↦ both-absurd (test (lowest test n)) (passes test n l) (h (lowest test n) l)
+      | no l ↦ let w : lowest test n ≤ n = within test n in omega arith
+    ]
+
+-- tests that agree below n have the same lowest position
+from-same : (f g : ℕ → Bool) (i c : ℕ) → ((k : ℕ) → i ≤ k → k < i + c → f k ≡ g k) → lowestFrom f i c ≡ lowestFrom g i c
+unfolding lowestFrom
+from-same f g i zero h = refl
+from-same f g i (suc c) h =
+    rw (h i (omega arith) (omega arith), from-same f g (suc i) c (λ k l m. h k (omega arith) (omega arith)))
+
+pub same : (f g : ℕ → Bool) (n : ℕ) → ((k : ℕ) → k < n → f k ≡ g k) → lowest f n ≡ lowest g n
+unfolding lowest
+same f g n h = from-same f g 0 n (λ k l m. h k (omega arith))
+
+-- some position passes, or none
+pub some-passes : (test : ℕ → Bool) (n k : ℕ) → k < n → test k ≡ true → someBelow test n ≡ true
+unfolding someBelow
+some-passes test n k l e =
+    elim (decLt (lowest test n) n) [
+      | yes h ↦ lt-ltb (lowest test n) n h
+      | no h ↦ both-absurd (test k) e (before test n k (omega arith))
+    ]
+
+pub no-some : (test : ℕ → Bool) (n : ℕ) → someBelow test n ≡ false → (k : ℕ) → k < n → test k ≡ false
+unfolding someBelow
+no-some test n e k l = before test n k (omega (arith, ltb-false (lowest test n) n e))
+
+pub none-some : (test : ℕ → Bool) (n : ℕ) → ((k : ℕ) → k < n → test k ≡ false) → someBelow test n ≡ false
+unfolding someBelow
+none-some test n h = le-ltb (lowest test n) n (omega (arith, none-passes test n h))
+
+-- A search from the first position upwards: no position below k passes the test, so the lowest is still to be found from k on.
+pub record Searched (test : ℕ → Bool) (n k : ℕ) : Type 0 where
+  pub within-is : k ≤ n
+  pub left : lowestFrom test k (n - k) ≡ lowest test n
+
+-- the search begins
+pub search-start : (test : ℕ → Bool) (n : ℕ) → Searched test n 0
+search-start test n = record { within-is = omega arith; left = from-start test n }
+
+-- position k passes: it is the lowest
+pub search-found : (test : ℕ → Bool) (n k : ℕ) → Searched test n k → k < n → test k ≡ true → k ≡ lowest test n
+search-found test n k s l e = sym (from-found test k n l e) ∙ s .left
+
+-- position k does not pass: the search goes on
+pub search-passed : (test : ℕ → Bool) (n k : ℕ) → Searched test n k → k < n → test k ≡ false → Searched test n (k + 1)
+search-passed test n k s l e =
+    record { within-is = omega arith; left = from-passed test k n l e ∙ s .left }
+
+-- no position is left: none passes
+pub search-end : (test : ℕ → Bool) (n k : ℕ) → Searched test n k → n ≤ k → k ≡ lowest test n
+search-end test n k s l =
+    let e : n ≡ k = omega (arith, s .within-is) in
+    rw (← e) (sym (from-end test n) ∙ rw e (rw e at (s .left)))

@@ -1,0 +1,35 @@
+-- Laws of lists that are given place by place.
+use Prim.Native.Nat.{ℕ, zero, suc, _+_, _≤_, _<_}
+use mathlib.Core.Path.{_≡_, refl, sym, ap}
+use mathlib.Core.List.{List, [], _∷_}
+use native.Mathlib.Omega.{arith}
+use lib.ListN.{length, getD}
+use lib.Seq.{ext-getD}
+use Rattle.base.specs.Places.{placesFrom, places}
+
+from-length : {A : Type 0} (at : ℕ → A) (i n : ℕ) → length (placesFrom at i n) ≡ n
+unfolding placesFrom
+from-length at i zero = refl
+from-length at i (suc n) = ap suc (from-length at (suc i) n)
+
+-- there are as many places as asked for
+pub places-length : {A : Type 0} (at : ℕ → A) (n : ℕ) → length (places at n) ≡ n
+unfolding places
+places-length at n = from-length at 0 n
+
+from-at : {A : Type 0} (at : ℕ → A) (i n k : ℕ) (d : A) → k < n → getD (placesFrom at i n) k d ≡ at (i + k)
+unfolding placesFrom
+from-at at i zero k d h = absurd (omega arith)
+from-at at i (suc n) zero d h = ap at (omega arith)
+from-at at i (suc n) (suc k) d h = let e : suc i + k ≡ i + suc k = omega arith in rw (← e) (from-at at (suc i) n k d (omega arith))
+
+-- place k holds what was asked for there
+pub places-at : {A : Type 0} (at : ℕ → A) (n k : ℕ) (d : A) → k < n → getD (places at n) k d ≡ at k
+unfolding places
+places-at at n k d h = let e : 0 + k ≡ k = omega arith in rw (from-at at 0 n k d h) (ap at e)
+
+-- a list of n elements is the list of its places
+pub places-is : {A : Type 0} (at : ℕ → A) (n : ℕ) (d : A) (l : List A) → length l ≡ n → ((k : ℕ) → k < n → getD l k d ≡ at k) → l ≡ places at n
+places-is at n d l e h =
+    ext-getD d l (places at n) (rw (e, places-length at n))
+    (λ k m. rw (places-at at n k d (omega arith)) (h k (omega arith)))

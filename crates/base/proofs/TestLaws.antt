@@ -1,0 +1,53 @@
+-- Laws of tests and of what a test picks.
+
+use mathlib.Core.Path.{_≡_, refl, subst, subst⁻¹}
+use mathlib.Core.Bool.{Bool, true, false, not}
+use lib.Dec.{T}
+use Rattle.base.specs.Tests.{pick, and, or}
+
+-- a test is true or false
+pub cases : {C : Type 0} (b : Bool) → (b ≡ true → C) → (b ≡ false → C) → C
+cases true f g = f refl
+cases false f g = g refl
+
+-- no test is both
+pub both-absurd : {C : Type 0} (b : Bool) → b ≡ true → b ≡ false → C
+both-absurd b p q = absurd (subst T q (subst⁻¹ T p tt))
+
+-- what is picked by a test that holds, and by one that does not
+pub pick-true : {A : Type 0} (b : Bool) (x y : A) → b ≡ true → pick b x y ≡ x
+pick-true b x y e = rw e
+
+pub pick-false : {A : Type 0} (b : Bool) (x y : A) → b ≡ false → pick b x y ≡ y
+pick-false b x y e = rw e
+
+-- both tests hold exactly where each does
+pub and-true : (a b : Bool) → a ≡ true → b ≡ true → and a b ≡ true
+and-true a b p q = rw (p, q)
+
+pub and-left : (a b : Bool) → and a b ≡ true → a ≡ true
+and-left true b e = refl
+and-left false b e = e
+
+pub and-right : (a b : Bool) → and a b ≡ true → b ≡ true
+and-right true b e = e
+and-right false b e = both-absurd false e refl
+
+-- neither test holds exactly where each does not
+pub or-false : (a b : Bool) → a ≡ false → b ≡ false → or a b ≡ false
+or-false a b p q = rw (p, q)
+
+pub or-left : (a b : Bool) → or a b ≡ false → a ≡ false
+or-left true b e = e
+or-left false b e = refl
+
+pub or-right : (a b : Bool) → or a b ≡ false → b ≡ false
+or-right true b e = both-absurd true refl e
+or-right false b e = e
+
+-- the second test of two, where the first does not hold
+pub or-second : (a b : Bool) → a ≡ false → or a b ≡ b
+or-second a b p = rw p
+
+pub or-first : (a b : Bool) → a ≡ true → or a b ≡ true
+or-first a b p = rw p

@@ -1,0 +1,18 @@
+-- The limits of the planner, named once for every definition. The code's names for the same numbers are the constants of src/lib.rt.
+use Prim.Native.Nat.{ℕ}
+
+-- the most tasks of a table, and the places of a table value
+abbrev pub maxTasks : ℕ
+maxTasks = 64
+
+-- the most runs of a run list
+abbrev pub maxRuns : ℕ
+maxRuns = 4_096
+
+-- the last frame that a table can name
+abbrev pub lastFrame : ℕ
+lastFrame = 131_071
+
+-- the greatest p and q of a period p/q
+abbrev pub maxPeriod : ℕ
+maxPeriod = 4_095

@@ -1,0 +1,14 @@
+// What every crate shares. The limits of the planner are named here, once; definitions cite the same numbers by the names in
+// specs/Limits.antt.
+
+// The most tasks of a table, and the places of a table value.
+pub const MAX_TASKS: usize = 64;
+
+// The most runs of a run list.
+pub const MAX_RUNS: usize = 4096;
+
+// The last frame that a table can name.
+pub const LAST_FRAME: u32 = 131_071;
+
+// The greatest p and q of a period p/q.
+pub const MAX_PERIOD: u32 = 4_095;

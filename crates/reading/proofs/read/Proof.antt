@@ -1,0 +1,86 @@
+-- `reading::read` meets its contract: the header's answer, else the windows' answer, else the table.
+use Prim.Native.Nat.{ℕ, _≤_}
+use mathlib.Core.Path.{_≡_, _∙_, sym, ap}
+use native.Mathlib.Omega.{arith}
+use borrow.Author.Needs.{needs}
+use Rattle.bits.specs.Bits.{bytesFor}
+use Rattle.table.specs.declared.Table.{Table}
+use Rattle.table.specs.declared.Answer.the-variants.{Accepted}
+use Rattle.table.specs.Answers.{isAccepted}
+use Rattle.table.specs.Windows.{windowAnswer}
+use Rattle.table.specs.Reading.{countIn, headAnswer}
+use Rattle.table.specs.Layout.{taskStart, fileLength}
+use Rattle.table.proofs.AnswerLaws.{told-refused}
+use Rattle.table.proofs.FileLaws.{count-known}
+use Rattle.table.proofs.RoundTrip.{HeadFacts, head-known, tableIn-count, read-test, read-table}
+use Rattle.reading.proofs.ReadLaws.{refused-head, refused-windows}
+use Rattle.reading.proofs.read.Statement.{statement}
+use Rattle.reading.proofs.read.Tie as tie
+
+head-answer-requires : tie.Need-head-answer-requires
+head-answer-requires c κs = search needs
+
+enum-told : tie.Need-enum-told
+enum-told c = search needs
+
+refused-requires : tie.Need-refused-requires
+refused-requires c κs = search needs
+
+returns : tie.Need-returns
+returns c =
+    let head = c .before .before .head-answer .ensures in
+    refused-head _ _ (ap isAccepted (sym head) ∙ told-refused (c .before .before .head-answer .result) (c .before .match .keys2)) (c .refused .ensures .0 ∙ head) (c .refused .ensures .1)
+
+-- past the first `let .. else` the header is accepted
+accepted-head : (c : tie.After-enum-told) → headAnswer (c .before .before .before .before .args .file .now) ≡ Accepted
+accepted-head c = sym (c .before .before .head-answer .ensures) ∙ c .enum-told .given .1
+
+table-in-requires : tie.Need-table-in-requires
+unfolding taskStart fileLength bytesFor
+table-in-requires c κs =
+    let facts = head-known (c .before .before .before .before .args .file .now) (accepted-head c) in
+    let count = count-known (countIn (c .before .before .before .before .args .file .now)) (facts .counted) in
+    (omega arith, (count .1, omega arith))
+
+window-answer-requires : tie.Need-window-answer-requires
+window-answer-requires c κs =
+    let s = c .before .before .before .before .before .args .file .now in
+    let facts = head-known s (accepted-head (c .before)) in
+    omega (arith, count-known (countIn s) (facts .counted) .1, ap (λ (t : Table). t .count) (c .table-in .ensures), tableIn-count s)
+
+enum-told-2 : tie.Need-enum-told-2
+enum-told-2 c = search needs
+
+refused-requires-2 : tie.Need-refused-requires-2
+refused-requires-2 c κs = search needs
+
+returns-2 : tie.Need-returns-2
+returns-2 c =
+    let s = c .before .before .before .before .before .before .before .before .args .file .now in
+    let windows = c .before .before .window-answer .ensures ∙ ap windowAnswer (c .before .before .before .table-in .ensures) in
+    refused-windows _ s (accepted-head (c .before .before .before .before))
+    (ap isAccepted (sym windows) ∙ told-refused (c .before .before .window-answer .result) (c .before .match2 .keys2))
+    (c .refused2 .ensures .0 ∙ windows) (c .refused2 .ensures .1)
+
+returns-3 : tie.Need-returns-3
+returns-3 c =
+    let s = c .before .before .before .before .before .before .before .before .args .file .now in
+    let table = c .before .before .before .table-in .ensures in
+    let windows = sym (c .before .before .window-answer .ensures ∙ ap windowAnswer table) ∙ c .enum-told2 .given .1 in
+    ap (λ (t : Table). record { answer = Accepted; table = t }) table
+    ∙ sym (read-table s (read-test s (accepted-head (c .before .before .before .before)) windows))
+
+pub read-spec : {M : Type 1} → statement M
+read-spec =
+    tie.close
+    (tie.spec
+    head-answer-requires
+    enum-told
+    refused-requires
+    returns
+    table-in-requires
+    window-answer-requires
+    enum-told-2
+    refused-requires-2
+    returns-2
+    returns-3)

@@ -1,0 +1,27 @@
+-- `reading::table_in` meets its contract.
+use mathlib.Core.Path.{_∙_, sym, ap}
+use native.Mathlib.Omega.{arith}
+use borrow.Author.Needs.{needs}
+use Rattle.table.specs.Layout.{taskStart}
+use Rattle.reading.proofs.ReadLaws.{table-taken}
+use Rattle.reading.proofs.table_in.Statement.{statement}
+use Rattle.reading.proofs.table_in.Tie as tie
+
+take-header-requires : tie.Need-take-header-requires
+take-header-requires c κs = search needs
+
+take-tasks-requires : tie.Need-take-tasks-requires
+take-tasks-requires c κs =
+    let h = c .take-header .ensures in
+    (h .3, (omega arith, omega (arith, ap taskStart (h .0))))
+
+new-requires : tie.Need-new-requires
+new-requires c κs = search needs
+
+returns : tie.Need-returns
+returns c =
+    let h = c .before .before .take-header .ensures in
+    c .new .ensures ∙ table-taken _ _ _ _ _ (h .0) (h .1) (h .2) (c .before .take-tasks .ensures)
+
+pub table-in-spec : {M : Type 1} → statement M
+table-in-spec = tie.close (tie.spec take-header-requires take-tasks-requires new-requires returns)

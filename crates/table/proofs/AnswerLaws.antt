@@ -1,0 +1,29 @@
+-- What a `let .. else` on an answer of reading tells.
+use Prim.Native.Nat.{ℕ}
+use mathlib.Core.Path.{_≡_, refl}
+use mathlib.Core.Bool.{Bool, true, false}
+use mathlib.Core.List.{List, [], _∷_}
+use types.Run.{OneOf, miss}
+use denote.Enum.Declared.{tagOf}
+use Rattle.table.specs.declared.Answer.{Answer}
+use Rattle.table.specs.declared.Answer.the-variants.{Accepted, Short, Count, Long, Padding, Period, Window, Nesting}
+use Rattle.table.specs.Answers.{isAccepted}
+use Rattle.table.proofs.Answer.{the-type}
+
+-- the tag of a case that is not `Accepted`
+abbrev pub Refusing : ℕ → Type 0
+Refusing tag = OneOf (1 ∷ 2 ∷ 3 ∷ 4 ∷ 5 ∷ 6 ∷ 7 ∷ []) tag
+
+no-zero : Refusing 0 → ⊥
+no-zero o = miss (1 ∷ 2 ∷ 3 ∷ 4 ∷ 5 ∷ 6 ∷ 7 ∷ []) 0 tt o
+
+-- in the `else` branch the answer is a refusal
+pub told-refused : (a : Answer) → Refusing (tagOf the-type a) → isAccepted a ≡ false
+told-refused Accepted o = absurd (no-zero o)
+told-refused (Short length) o = refl
+told-refused Count o = refl
+told-refused (Long needed) o = refl
+told-refused Padding o = refl
+told-refused Period o = refl
+told-refused (Window position) o = refl
+told-refused (Nesting position) o = refl

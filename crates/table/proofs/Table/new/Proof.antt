@@ -1,0 +1,76 @@
+-- `table::Table::new` meets its contract. The loop's invariant: the places below `i` hold what the definition says, and the others are 0.
+use Prim.Native.Nat.{ℕ, _+_, _-_, _≤_, _<_}
+use mathlib.Core.Path.{_≡_, refl, sym, ap}
+use mathlib.Core.Logic.{⊎-elim}
+use mathlib.Core.List.{List}
+use native.Mathlib.Omega.{arith}
+use borrow.Author.Needs.{needs}
+use lib.Dec.{ltb}
+use lib.ListN.{length, getD, set, length-set}
+use Rattle.base.specs.Tests.{pick, and}
+use Rattle.table.specs.declared.Task.{Task}
+use Rattle.table.specs.Tables.{noTask, tableOf}
+use Rattle.table.proofs.Filling.{Filled, filled-start, filled-set, filled-skip, filled-whole}
+use Rattle.table.proofs.Table.new.Statement.{statement}
+use Rattle.table.proofs.Table.new.Tie as tie
+use Rattle.table.proofs.Table.new.Reads as reads
+use Rattle.table.proofs.Table.new.Lts as lts
+
+abbrev Inv-loop : tie.InvT-loop
+Inv-loop count p q tasks kept₀ places i₀ kept i = (i ≤ 64) × Filled (λ k. getD tasks k noTask) count i kept
+
+abbrev μ-loop : tie.MeasureT-loop
+μ-loop count p q tasks kept₀ places i₀ kept i = 64 - i
+
+loop-holds : tie.Need-loop-holds Inv-loop μ-loop
+loop-holds c = (omega arith, filled-start _ _)
+
+mul-kept : tie.Need-mul-kept Inv-loop μ-loop
+mul-kept c = omega arith
+
+array-copy-out-kept : tie.Need-array-copy-out-kept Inv-loop μ-loop
+array-copy-out-kept c = omega arith
+
+mul-kept-2 : tie.Need-mul-kept-2 Inv-loop μ-loop
+mul-kept-2 c = omega arith
+
+array-set-from-kept : tie.Need-array-set-from-kept Inv-loop μ-loop
+array-set-from-kept c = omega arith
+
+add-i : tie.Need-add-i Inv-loop μ-loop
+add-i c = omega arith
+
+loop-less : tie.Need-loop-less Inv-loop μ-loop
+loop-less c = omega arith
+
+loop-again : tie.Need-loop-again Inv-loop μ-loop
+loop-again c = (
+  omega arith,
+  ⊎-elim
+      (λ w. rw (w .2) (filled-set _ _ _ _ _ (omega arith) (omega arith) refl (c .before .before .loop .inv .1)))
+      (λ w. rw (w .1) (filled-skip _ _ _ _ (omega arith) (c .before .before .loop .inv .1)))
+      (c .if1 .came),
+)
+
+returns : tie.Need-returns Inv-loop μ-loop
+unfolding tableOf
+returns c =
+    ap
+    (λ (kept : List Task). record { count = c .before .before .args .count; p = c .before .before .args .p; q = c .before .before .args .q; tasks = kept })
+    (filled-whole _ _ _ _ (λ k a b. omega arith) (c .before .loop .inv .1))
+
+pub new-spec : {M : Type 1} → statement M
+new-spec =
+    tie.close
+    (tie.spec
+    Inv-loop
+    μ-loop
+    loop-holds
+    mul-kept
+    array-copy-out-kept
+    mul-kept-2
+    array-set-from-kept
+    add-i
+    loop-less
+    loop-again
+    returns)

@@ -1,0 +1,46 @@
+-- What reading answers, as document 01 prints it: for each case the number and the place.
+use Prim.Native.Nat.{ℕ}
+use mathlib.Core.Bool.{Bool, true, false}
+use Rattle.table.specs.declared.Answer.{Answer}
+use Rattle.table.specs.declared.Answer.the-variants.{Accepted, Short, Count, Long, Padding, Period, Window, Nesting}
+use Rattle.table.specs.declared.Written.{Written}
+
+-- the number of a refusal; 0 where nothing is refused
+abbrev pub numberOf : Answer → ℕ
+numberOf Accepted = 0
+numberOf (Short length) = 1
+numberOf Count = 2
+numberOf (Long needed) = 3
+numberOf Padding = 4
+numberOf Period = 5
+numberOf (Window position) = 6
+numberOf (Nesting position) = 7
+
+-- the place of a refusal: the file length, the length needed, a position, or 0
+abbrev pub placeOf : Answer → ℕ
+placeOf Accepted = 0
+placeOf (Short length) = length
+placeOf Count = 0
+placeOf (Long needed) = needed
+placeOf Padding = 0
+placeOf Period = 0
+placeOf (Window position) = position
+placeOf (Nesting position) = position
+
+-- nothing is refused
+abbrev pub isAccepted : Answer → Bool
+isAccepted Accepted = true
+isAccepted (Short length) = false
+isAccepted Count = false
+isAccepted (Long needed) = false
+isAccepted Padding = false
+isAccepted Period = false
+isAccepted (Window position) = false
+isAccepted (Nesting position) = false
+
+-- the reply of writing or moving that refuses, and the one that reports bytes written: parts that are not named are 0
+abbrev pub declined : ℕ → ℕ → Written
+declined number place = record { number = number; place = place; bytes = 0 }
+
+abbrev pub wrote : ℕ → Written
+wrote bytes = record { number = 0; place = 0; bytes = bytes }

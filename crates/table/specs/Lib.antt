@@ -1,0 +1,7 @@
+pub mod Tables
+pub mod Layout
+pub mod Answers
+pub mod Windows
+pub mod Reading
+pub mod Writing
+pub mod Moving

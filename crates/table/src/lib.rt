@@ -1,0 +1,245 @@
+// The table value: its tasks, its places, its constructor, the rules for windows that reading and writing share, and the answers.
+ghost use mathlib.Core.Path.{_≡_};
+ghost use Prim.Native.Nat.{_≤_};
+ghost use lib.ListN.{getD};
+ghost use Rattle.base.specs.Limits.{maxTasks};
+ghost use Rattle.base.specs.Lowest.{lowest};
+ghost use Rattle.table.specs.Tables.{noTask, noTable, tableOf, taskAt};
+ghost use Rattle.table.specs.Answers.{numberOf, placeOf};
+ghost use Rattle.table.specs.Windows.{reversed, contains, nested, crosses, windowAnswer};
+ghost use Rattle.table.specs.Layout.{badCount, badPeriod, fileLength};
+use base::MAX_PERIOD;
+use base::MAX_TASKS;
+
+// A task: its window in frames, and its two lengths in ticks.
+pub struct Task {
+    pub release: u32,
+    pub deadline: u32,
+    pub mandatory: u32,
+    pub optional: u32,
+}
+
+// A task of which every number is 0: what stands at a place that holds no task.
+pub const NO_TASK: Task = Task {
+    release: 0,
+    deadline: 0,
+    mandatory: 0,
+    optional: 0,
+};
+
+// A table: how many tasks it has, its period p/q, and places for its tasks.
+pub struct Table {
+    pub count: u32,
+    pub p: u32,
+    pub q: u32,
+    pub tasks: [Task; MAX_TASKS],
+}
+
+// What reading answers: a case for each cause of a refusal, with its place where it has one of its own.
+pub enum Answer {
+    Accepted,
+    // Fewer than 4 bytes, or fewer than the count needs; the file's length.
+    Short(usize),
+    // The task count is 0 or above the limit.
+    Count,
+    // More bytes than the count needs; the length needed.
+    Long(usize),
+    // A padding bit is set.
+    Padding,
+    // p or q is 0 or above the limit, or p is below q.
+    Period,
+    // A release frame is not below the deadline frame; the task's position.
+    Window(usize),
+    // A window is not nested with an earlier one; the task's position.
+    Nesting(usize),
+}
+
+// The reply of reading: the answer, and the table beside it.
+pub struct Reading {
+    pub answer: Answer,
+    pub table: Table,
+}
+
+// The reply of writing and of moving: the refusal's number and place, or 0 and the number of bytes written.
+pub struct Written {
+    pub number: u32,
+    pub place: usize,
+    pub bytes: usize,
+}
+
+impl Answer {
+    // The number of the answer's refusal, and 0 where nothing is refused.
+    pub fn number(self) -> u32
+        ensures { λ r. ⌜ r ≡ numberOf self ⌝ }
+    {
+        match self {
+            Answer::Accepted => 0,
+            Answer::Short(_) => 1,
+            Answer::Count => 2,
+            Answer::Long(_) => 3,
+            Answer::Padding => 4,
+            Answer::Period => 5,
+            Answer::Window(_) => 6,
+            Answer::Nesting(_) => 7,
+        }
+    }
+
+    // The place of the answer's refusal, and 0 where it has none.
+    pub fn place(self) -> usize
+        ensures { λ r. ⌜ r ≡ placeOf self ⌝ }
+    {
+        match self {
+            Answer::Accepted => 0,
+            Answer::Short(length) => length,
+            Answer::Count => 0,
+            Answer::Long(needed) => needed,
+            Answer::Padding => 0,
+            Answer::Period => 0,
+            Answer::Window(position) => position,
+            Answer::Nesting(position) => position,
+        }
+    }
+}
+
+// The task count is 0 or above the limit.
+pub fn bad_count(count: u32) -> bool
+    ensures { λ r. ⌜ r ≡ badCount count ⌝ }
+{
+    count == 0 || (MAX_TASKS as u32) < count
+}
+
+// p or q is 0 or above the limit, or p is below q.
+pub fn bad_period(p: u32, q: u32) -> bool
+    ensures { λ r. ⌜ r ≡ badPeriod p q ⌝ }
+{
+    if p == 0 {
+        return true;
+    }
+    if q == 0 {
+        return true;
+    }
+    if MAX_PERIOD < p {
+        return true;
+    }
+    if MAX_PERIOD < q {
+        return true;
+    }
+    p < q
+}
+
+// The bytes of a file of `count` tasks.
+pub fn file_length(count: u32) -> usize
+    requires { ⌜ count ≤ maxTasks ⌝ }
+    ensures { λ r. ⌜ r ≡ fileLength count ⌝ }
+{
+    (31 + 62 * (count as usize) + 7) / 8
+}
+
+// The release frame is not below the deadline frame.
+fn is_reversed(task: Task) -> bool
+    ensures { λ r. ⌜ r ≡ reversed task ⌝ }
+{
+    task.deadline <= task.release
+}
+
+// The window of `a` contains that of `b`.
+fn window_contains(a: Task, b: Task) -> bool
+    ensures { λ r. ⌜ r ≡ contains a b ⌝ }
+{
+    a.release <= b.release && b.deadline <= a.deadline
+}
+
+// One of two windows contains the other.
+fn are_nested(a: Task, b: Task) -> bool
+    ensures { λ r. ⌜ r ≡ nested a b ⌝ }
+{
+    window_contains(a, b) || window_contains(b, a)
+}
+
+impl Table {
+    // The table of the first `count` of some tasks: every place beyond them is 0.
+    pub fn new(count: u32, p: u32, q: u32, tasks: [Task; MAX_TASKS]) -> Table
+        ensures { λ r. ⌜ r ≡ tableOf count p q (λ k. getD tasks k noTask) ⌝ }
+    {
+        let mut kept = [NO_TASK; MAX_TASKS];
+        let places = count as usize;
+        let mut i: usize = 0;
+        while i < MAX_TASKS {
+            if i < places {
+                kept[i] = tasks[i];
+            }
+            i += 1;
+        }
+        Table {
+            count,
+            p,
+            q,
+            tasks: kept,
+        }
+    }
+
+    // The table that is 0 throughout.
+    pub fn none() -> Table
+        ensures { λ r. ⌜ r ≡ noTable ⌝ }
+    {
+        Table::new(0, 0, 0, [NO_TASK; MAX_TASKS])
+    }
+
+    // The lowest position whose window is reversed, and the task count where none is.
+    fn first_reversed(self) -> usize
+        requires { ⌜ self .count ≤ maxTasks ⌝ }
+        ensures { λ r. ⌜ r ≡ lowest (λ k. reversed (taskAt self k)) (self .count) ⌝ }
+    {
+        let count = self.count as usize;
+        let mut k: usize = 0;
+        while k < count {
+            let task = self.tasks[k];
+            if is_reversed(task) {
+                return k;
+            }
+            k += 1;
+        }
+        k
+    }
+
+    // The lowest position whose window is not nested with that of some earlier one, and the task count where there is none.
+    fn first_crossing(self) -> usize
+        requires { ⌜ self .count ≤ maxTasks ⌝ }
+        ensures { λ r. ⌜ r ≡ lowest (crosses self) (self .count) ⌝ }
+    {
+        let count = self.count as usize;
+        let mut k: usize = 0;
+        let mut j: usize = 0;
+        while k < count {
+            if j == k {
+                k += 1;
+                j = 0;
+            } else {
+                let earlier = self.tasks[j];
+                let task = self.tasks[k];
+                if !are_nested(earlier, task) {
+                    return k;
+                }
+                j += 1;
+            }
+        }
+        k
+    }
+
+    // What the windows of a table answer: the first that is reversed, else the first that crosses an earlier one, else nothing refused.
+    pub fn window_answer(self) -> Answer
+        requires { ⌜ self .count ≤ maxTasks ⌝ }
+        ensures { λ r. ⌜ r ≡ windowAnswer self ⌝ }
+    {
+        let count = self.count as usize;
+        let reversed = self.first_reversed();
+        if reversed < count {
+            return Answer::Window(reversed);
+        }
+        let crossing = self.first_crossing();
+        if crossing < count {
+            return Answer::Nesting(crossing);
+        }
+        Answer::Accepted
+    }
+}
