@@ -16,3 +16,7 @@ lastFrame = 131_071
 -- the greatest p and q of a period p/q
 abbrev pub maxPeriod : ℕ
 maxPeriod = 4_095
+
+-- the greatest length of a mandatory or an optional part in ticks
+abbrev pub maxTicks : ℕ
+maxTicks = 16_383

@@ -12,3 +12,6 @@ pub const LAST_FRAME: u32 = 131_071;
 
 // The greatest p and q of a period p/q.
 pub const MAX_PERIOD: u32 = 4_095;
+
+// The greatest length of a mandatory or an optional part in ticks.
+pub const MAX_TICKS: u32 = 16_383;

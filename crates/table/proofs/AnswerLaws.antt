@@ -3,11 +3,12 @@ use Prim.Native.Nat.{ℕ}
 use mathlib.Core.Path.{_≡_, refl}
 use mathlib.Core.Bool.{Bool, true, false}
 use mathlib.Core.List.{List, [], _∷_}
+use lib.Dec.{eqb}
 use types.Run.{OneOf, miss}
 use denote.Enum.Declared.{tagOf}
 use Rattle.table.specs.declared.Answer.{Answer}
 use Rattle.table.specs.declared.Answer.the-variants.{Accepted, Short, Count, Long, Padding, Period, Window, Nesting}
-use Rattle.table.specs.Answers.{isAccepted}
+use Rattle.table.specs.Answers.{numberOf, isAccepted}
 use Rattle.table.proofs.Answer.{the-type}
 
 -- the tag of a case that is not `Accepted`
@@ -27,3 +28,14 @@ told-refused Padding o = refl
 told-refused Period o = refl
 told-refused (Window position) o = refl
 told-refused (Nesting position) o = refl
+
+-- a refusal has a number that is not 0
+pub refused-number : (a : Answer) → isAccepted a ≡ false → eqb (numberOf a) 0 ≡ false
+refused-number Accepted e = e
+refused-number (Short length) e = refl
+refused-number Count e = refl
+refused-number (Long needed) e = refl
+refused-number Padding e = refl
+refused-number Period e = refl
+refused-number (Window position) e = refl
+refused-number (Nesting position) e = refl

@@ -5,7 +5,7 @@ ghost use lib.ListN.{getD};
 ghost use Rattle.base.specs.Limits.{maxTasks};
 ghost use Rattle.base.specs.Lowest.{lowest};
 ghost use Rattle.table.specs.Tables.{noTask, noTable, tableOf, taskAt};
-ghost use Rattle.table.specs.Answers.{numberOf, placeOf};
+ghost use Rattle.table.specs.Answers.{numberOf, placeOf, declined, wrote};
 ghost use Rattle.table.specs.Windows.{reversed, contains, nested, crosses, windowAnswer};
 ghost use Rattle.table.specs.Layout.{badCount, badPeriod, fileLength};
 use base::MAX_PERIOD;
@@ -97,6 +97,30 @@ impl Answer {
             Answer::Period => 0,
             Answer::Window(position) => position,
             Answer::Nesting(position) => position,
+        }
+    }
+}
+
+impl Written {
+    // The reply of a refusal.
+    pub fn declined(number: u32, place: usize) -> Written
+        ensures { λ r. ⌜ r ≡ declined number place ⌝ }
+    {
+        Written {
+            number,
+            place,
+            bytes: 0,
+        }
+    }
+
+    // The reply that so many bytes were written.
+    pub fn wrote(bytes: usize) -> Written
+        ensures { λ r. ⌜ r ≡ wrote bytes ⌝ }
+    {
+        Written {
+            number: 0,
+            place: 0,
+            bytes,
         }
     }
 }
