@@ -1,5 +1,6 @@
 // Moving a table file by a signed number of frames (an entry point).
 ghost use mathlib.Core.Path.{_≡_};
+ghost use mathlib.Core.Bool.{false};
 ghost use Prim.Native.Nat.{_≤_};
 ghost use lib.ListN.{length};
 ghost use Rattle.base.specs.Limits.{maxTasks};

@@ -1,0 +1,2 @@
+pub mod ShiftLaws
+pub mod MoveLaws

@@ -1,0 +1,86 @@
+-- From the parts of moving to the whole.
+use Prim.Native.Nat.{ℕ, _≤_, _<_}
+use mathlib.Core.Path.{_≡_, refl, sym, ap, _∙_}
+use mathlib.Core.Bool.{Bool, true, false}
+use mathlib.Core.List.{List, _++_}
+use native.Mathlib.Omega.{arith}
+use lib.Dec.{ltb, eqb}
+use lib.IntN.{ℤ}
+use lib.ListN.{length, drop, getD}
+use borrow.Author.Tests.{lt-ltb, le-ltb}
+use Rattle.base.specs.Limits.{maxTasks}
+use Rattle.base.proofs.LowestLaws.{before, within}
+use Rattle.table.specs.declared.Task.{Task}
+use Rattle.table.specs.declared.Table.{Table}
+use Rattle.table.specs.declared.Reading.{Reading}
+use Rattle.table.specs.declared.Written.{Written}
+use Rattle.table.specs.declared.Answer.the-variants.{Accepted}
+use Rattle.table.specs.Tables.{noTask, taskAt, tableOf}
+use Rattle.table.specs.Layout.{fileLength}
+use Rattle.table.specs.Answers.{numberOf, placeOf, isAccepted, declined, wrote}
+use Rattle.table.specs.Reading.{tableIn, readAnswer, reading}
+use Rattle.table.specs.Writing.{fileOf, contentAfter}
+use Rattle.table.specs.Moving.{movedTask, movedOutside, firstOutside, movedTable, moveReply, movedOver}
+use Rattle.table.proofs.Filling.{Filled}
+use Rattle.table.proofs.FileLaws.{tableOf-same, fileOf-length}
+
+-- where the search for a task outside ends at the count, no task is outside
+pub none-outside : (shift : ℤ) (t : Table) (k : ℕ) → firstOutside shift t ≡ t .count → k < t .count → movedOutside shift (taskAt t k) ≡ false
+unfolding firstOutside
+none-outside shift t k e l = before (λ k. movedOutside shift (taskAt t k)) (t .count) k (omega arith)
+
+-- the constructor's table of the moved tasks is the moved table
+pub moved-filled : (shift : ℤ) (t : Table) (i : ℕ) (tasks : List Task) → t .count ≤ i → Filled (λ k. movedTask shift (taskAt t k)) (t .count) i tasks
+    → tableOf (t .count) (t .p) (t .q) (λ k. getD tasks k noTask) ≡ movedTable shift t
+unfolding movedTable
+moved-filled shift t i tasks l f =
+    tableOf-same (t .count) (t .p) (t .q) (λ k. getD tasks k noTask) (λ k. movedTask shift (taskAt t k))
+    (λ k a b. f .before k (omega arith) a b)
+
+-- a refusal leaves the list as it was
+pub refused-keeps : (s : List ℕ) (shift : ℤ) (out : List ℕ) (reply : Written) → reply ≡ moveReply s shift (length out) → eqb (reply .number) 0 ≡ false
+    → out ≡ movedOver s shift out
+unfolding movedOver contentAfter
+refused-keeps s shift out reply e n = rw (← e, n)
+
+module _ (s : List ℕ) (shift : ℤ) (room : ℕ) where
+  pub read-refused : isAccepted (readAnswer s) ≡ false → declined (numberOf (readAnswer s)) (placeOf (readAnswer s)) ≡ moveReply s shift room
+  unfolding moveReply
+  read-refused e = rw e
+
+  module _ (accepted : readAnswer s ≡ Accepted) where
+    pub frame-refused : firstOutside shift (tableIn s) < tableIn s .count → declined 10 (firstOutside shift (tableIn s)) ≡ moveReply s shift room
+    unfolding moveReply
+    frame-refused l = rw (accepted, lt-ltb (firstOutside shift (tableIn s)) (tableIn s .count) l)
+
+    module _ (inside : tableIn s .count ≤ firstOutside shift (tableIn s)) where
+      pub room-refused : room < length s → declined 9 0 ≡ moveReply s shift room
+      unfolding moveReply
+      room-refused l = rw (accepted, le-ltb (firstOutside shift (tableIn s)) (tableIn s .count) inside, lt-ltb room (length s) l)
+
+      pub nothing-refused : length s ≤ room → wrote (length s) ≡ moveReply s shift room
+      unfolding moveReply
+      nothing-refused l = rw (accepted, le-ltb (firstOutside shift (tableIn s)) (tableIn s .count) inside, le-ltb room (length s) l)
+
+-- what reading replies, where its answer is known
+pub read-answer : (s : List ℕ) (r : Reading) → r ≡ reading s → r .answer ≡ readAnswer s
+unfolding reading
+read-answer s r e = ap (λ (r : Reading). r .answer) e
+
+pub read-is : (s : List ℕ) (r : Reading) → r ≡ reading s → readAnswer s ≡ Accepted → r .table ≡ tableIn s
+unfolding reading
+read-is s r e a = ap (λ (r : Reading). r .table) e ∙ rw a
+
+-- the search for a task outside ends at the count at the latest
+pub inside-all : (shift : ℤ) (t : Table) → t .count ≤ firstOutside shift t → firstOutside shift t ≡ t .count
+unfolding firstOutside
+inside-all shift t l = omega (arith, within (λ k. movedOutside shift (taskAt t k)) (t .count))
+
+-- an acceptance leaves the file of the moved table, and beyond it what stood there
+pub accepted-leaves : (s : List ℕ) (shift : ℤ) (out after : List ℕ) (u : Table) → wrote (length s) ≡ moveReply s shift (length out)
+    → u ≡ movedTable shift (tableIn s) → after ≡ fileOf u ++ drop (fileLength (u .count)) out → after ≡ movedOver s shift out
+unfolding movedOver contentAfter
+accepted-leaves s shift out after u e m a =
+    a
+    ∙ (ap (λ (t : Table). fileOf t ++ drop (fileLength (t .count)) out) m
+    ∙ rw (← e, fileOf-length (movedTable shift (tableIn s))))
