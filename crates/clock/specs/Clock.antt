@@ -4,7 +4,7 @@ use Rattle.base.specs.Limits.{maxPeriod}
 
 -- each of p and q is 1 to 4,095, and p is at least q
 pub record LegalPeriod (p q : ℕ) : Type 0 where
-  pub some : 1 ≤ q
+  pub positive : 1 ≤ q
   pub ordered : q ≤ p
   pub small : p ≤ maxPeriod
 

@@ -16,7 +16,7 @@ use table::Task;
 use table::Written;
 
 // Where a moved frame comes to lie.
-pub enum Moved {
+enum Moved {
     Frame(u32),
     Outside,
 }

@@ -12,13 +12,19 @@ ghost use Rattle.table.specs.Reading.{countIn, pIn, qIn, taskFrom, taskIn, tabl
 use base::MAX_TASKS;
 use bits::Cursor;
 use table::Answer;
+use table::COUNT_WIDTH;
+use table::FRAME_WIDTH;
+use table::HEADER_WIDTH;
 use table::NO_TASK;
+use table::PERIOD_WIDTH;
 use table::Reading;
+use table::TASK_WIDTH;
+use table::TICKS_WIDTH;
 use table::Table;
 use table::Task;
 
 // The numbers of a file's header, and the cursor at the bit after them.
-pub struct Header {
+struct Header {
     pub count: u32,
     pub p: u32,
     pub q: u32,
@@ -26,7 +32,7 @@ pub struct Header {
 }
 
 // A task that was read, and the cursor at the bit after it.
-pub struct TakenTask {
+struct TakenTask {
     pub task: Task,
     pub next: Cursor,
 }
@@ -36,9 +42,9 @@ fn take_header(file: &[u8]) -> Header
     requires { ⌜ headerWidth ≤ 8 * length (now file) ⌝ }
     ensures { λ r. ⌜ (r .count ≡ countIn (now (file .entry))) × (r .p ≡ pIn (now (file .entry))) × (r .q ≡ qIn (now (file .entry))) × (r .next .at ≡ headerWidth) ⌝ }
 {
-    let count = Cursor::new().take(file, 7);
-    let p = count.next.take(file, 12);
-    let q = p.next.take(file, 12);
+    let count = Cursor::new().take(file, COUNT_WIDTH);
+    let p = count.next.take(file, PERIOD_WIDTH);
+    let q = p.next.take(file, PERIOD_WIDTH);
     let next = q.next;
     Header {
         count: count.value,
@@ -54,10 +60,10 @@ fn take_task(file: &[u8], at: Cursor) -> TakenTask
     requires { ⌜ at .at + taskWidth < 2 ^ 64 ⌝ }
     ensures { λ r. ⌜ (r .task ≡ taskFrom (now (file .entry)) (at .at)) × (r .next .at ≡ at .at + taskWidth) ⌝ }
 {
-    let release = at.take(file, 17);
-    let deadline = release.next.take(file, 17);
-    let mandatory = deadline.next.take(file, 14);
-    let optional = mandatory.next.take(file, 14);
+    let release = at.take(file, FRAME_WIDTH);
+    let deadline = release.next.take(file, FRAME_WIDTH);
+    let mandatory = deadline.next.take(file, TICKS_WIDTH);
+    let optional = mandatory.next.take(file, TICKS_WIDTH);
     let task = Task {
         release: release.value,
         deadline: deadline.value,
@@ -95,7 +101,7 @@ fn padding_set(file: &[u8], count: u32) -> bool
     requires { ⌜ length (now file) ≡ fileLength count ⌝ }
     ensures { λ r. ⌜ r ≡ paddingSet (now (file .entry)) count ⌝ }
 {
-    let used = 31 + 62 * (count as usize);
+    let used = HEADER_WIDTH + TASK_WIDTH * (count as usize);
     let rest = Cursor { at: used }.take(file, 8 * file.len() - used);
     rest.value != 0
 }

@@ -11,6 +11,20 @@ ghost use Rattle.table.specs.Layout.{badCount, badPeriod, fileLength};
 use base::MAX_PERIOD;
 use base::MAX_TASKS;
 
+// The widths of a file's fields in bits: the task count, p and q, a frame, a number of ticks.
+pub const COUNT_WIDTH: usize = 7;
+
+pub const PERIOD_WIDTH: usize = 12;
+
+pub const FRAME_WIDTH: usize = 17;
+
+pub const TICKS_WIDTH: usize = 14;
+
+// The widths of a file's header and of one task.
+pub const HEADER_WIDTH: usize = COUNT_WIDTH + 2 * PERIOD_WIDTH;
+
+pub const TASK_WIDTH: usize = 2 * FRAME_WIDTH + 2 * TICKS_WIDTH;
+
 // A task: its window in frames, and its two lengths in ticks.
 pub struct Task {
     pub release: u32,
@@ -156,7 +170,7 @@ pub fn file_length(count: u32) -> usize
     requires { ⌜ count ≤ maxTasks ⌝ }
     ensures { λ r. ⌜ r ≡ fileLength count ⌝ }
 {
-    (31 + 62 * (count as usize) + 7) / 8
+    (HEADER_WIDTH + TASK_WIDTH * (count as usize) + 7) / 8
 }
 
 // The release frame is not below the deadline frame.

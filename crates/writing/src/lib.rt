@@ -11,6 +11,10 @@ use base::LAST_FRAME;
 use base::MAX_TICKS;
 use bits::Cursor;
 use table::Answer;
+use table::COUNT_WIDTH;
+use table::FRAME_WIDTH;
+use table::PERIOD_WIDTH;
+use table::TICKS_WIDTH;
 use table::Table;
 use table::Task;
 use table::Written;
@@ -53,9 +57,9 @@ fn put_header(table: Table, out: &mut [u8]) -> Cursor
     requires { ⌜ headerWidth ≤ 8 * length (now out) ⌝ }
     ensures { λ r. ⌜ (r .at ≡ headerWidth) × (now (out .exit) ≡ putBits (now (out .entry)) 0 (headerBits table)) ⌝ }
 {
-    let p_at = Cursor::new().put(out, 7, table.count);
-    let q_at = p_at.put(out, 12, table.p);
-    q_at.put(out, 12, table.q)
+    let p_at = Cursor::new().put(out, COUNT_WIDTH, table.count);
+    let q_at = p_at.put(out, PERIOD_WIDTH, table.p);
+    q_at.put(out, PERIOD_WIDTH, table.q)
 }
 
 // A task put at the cursor: release frame, deadline frame, mandatory ticks, optional ticks; and the cursor behind it.
@@ -64,10 +68,10 @@ fn put_task(task: Task, at: Cursor, out: &mut [u8]) -> Cursor
     requires { ⌜ at .at + taskWidth < 2 ^ 64 ⌝ }
     ensures { λ r. ⌜ (r .at ≡ at .at + taskWidth) × (now (out .exit) ≡ putBits (now (out .entry)) (at .at) (taskBits task)) ⌝ }
 {
-    let deadline_at = at.put(out, 17, task.release);
-    let mandatory_at = deadline_at.put(out, 17, task.deadline);
-    let optional_at = mandatory_at.put(out, 14, task.mandatory);
-    optional_at.put(out, 14, task.optional)
+    let deadline_at = at.put(out, FRAME_WIDTH, task.release);
+    let mandatory_at = deadline_at.put(out, FRAME_WIDTH, task.deadline);
+    let optional_at = mandatory_at.put(out, TICKS_WIDTH, task.mandatory);
+    optional_at.put(out, TICKS_WIDTH, task.optional)
 }
 
 // The file of a table put at the head of a list that is long enough; the list beyond it keeps its content.
