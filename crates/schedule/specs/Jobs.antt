@@ -1,0 +1,43 @@
+-- Jobs: the tasks of an accepted table in ticks. This is the only definition above the frame clock that knows frames or periods.
+use Prim.Native.Nat.{ℕ, _+_}
+use mathlib.Core.List.{List}
+use lib.Dec.{ltb, eqb}
+use mathlib.Core.Bool.{Bool}
+use Rattle.base.specs.Tests.{pick}
+use Rattle.base.specs.Places.{places}
+use Rattle.clock.specs.Clock.{releaseTick, deadlineTick}
+use Rattle.table.specs.declared.Task.{Task}
+use Rattle.table.specs.declared.Table.{Table}
+use Rattle.table.specs.Tables.{taskAt}
+use Rattle.schedule.specs.declared.Job.{Job}
+
+-- the job of which every number is 0
+abbrev pub noJob : Job
+noJob = record { position = 0; release = 0; deadline = 0; mandatory = 0; optional = 0 }
+
+-- a task at a position, with a window in ticks: from its release, included, to its deadline, excluded
+unfoldable pub jobOf : ℕ → ℕ → ℕ → Task → Job
+jobOf p q position task =
+    record {
+    position = position;
+    release = releaseTick p q (task .release);
+    deadline = deadlineTick p q (task .deadline);
+    mandatory = task .mandatory;
+    optional = task .optional
+    }
+
+-- the job at a position of a table
+unfoldable pub jobAt : Table → ℕ → Job
+jobAt t k = jobOf (t .p) (t .q) k (taskAt t k)
+
+-- the jobs of a table, by position
+unfoldable pub jobsOf : Table → List Job
+jobsOf t = places (jobAt t) (t .count)
+
+-- the work of a job under a mark: its mandatory ticks, plus its optional ticks where kept
+abbrev pub workOf : Job → ℕ → ℕ
+workOf job mark = job .mandatory + pick (eqb mark 1) (job .optional) 0
+
+-- an optional part counts where it has ticks
+abbrev pub counts : Job → Bool
+counts job = ltb 0 (job .optional)

@@ -1,0 +1,90 @@
+-- Judging a keep list and a run list, whoever made them.
+use Prim.Native.Nat.{ℕ, _+_, _-_}
+use mathlib.Core.List.{List, [], _∷_}
+use mathlib.Core.Bool.{Bool, true, false, not}
+use lib.Dec.{leb, ltb, eqb}
+use lib.ListN.{length, getD}
+use Rattle.base.specs.Tests.{pick, and}
+use Rattle.base.specs.Lowest.{lowest}
+use Rattle.table.specs.declared.Table.{Table}
+use Rattle.table.specs.Answers.{numberOf, placeOf, isAccepted}
+use Rattle.table.specs.Reading.{tableIn, readAnswer}
+use Rattle.schedule.specs.declared.Job.{Job}
+use Rattle.schedule.specs.declared.Judged.{Judged}
+use Rattle.schedule.specs.Jobs.{jobAt, workOf, counts}
+use Rattle.schedule.specs.Ticks.{countBelow}
+use Rattle.schedule.specs.Runs.{Run, badColumns, runsOf}
+
+-- The five conditions of a yes, for the jobs of n positions.
+
+-- every start is below its end
+unfoldable pub noneEmpty : List Run → Bool
+noneEmpty [] = true
+noneEmpty (run ∷ runs) = and (ltb (run .start) (run .end)) (noneEmpty runs)
+
+-- no run starts before the one listed before it ends; the first starts at tick `from` or later
+unfoldable pub followFrom : ℕ → List Run → Bool
+followFrom from [] = true
+followFrom from (run ∷ runs) = and (leb from (run .start)) (followFrom (run .end) runs)
+
+unfoldable pub inOrder : List Run → Bool
+inOrder runs = followFrom 0 runs
+
+-- every task number is in the table
+unfoldable pub knownTasks : ℕ → List Run → Bool
+knownTasks n [] = true
+knownTasks n (run ∷ runs) = and (ltb (run .task) n) (knownTasks n runs)
+
+-- every run is inside its window
+unfoldable pub inWindows : (ℕ → Job) → List Run → Bool
+inWindows job [] = true
+inWindows job (run ∷ runs) =
+    and (and (leb (job (run .task) .release) (run .start)) (leb (run .end) (job (run .task) .deadline))) (inWindows job runs)
+
+-- the ticks that the runs of task i total
+unfoldable pub totalOf : List Run → ℕ → ℕ
+totalOf [] i = 0
+totalOf (run ∷ runs) i = pick (eqb (run .task) i) (run .end - run .start) 0 + totalOf runs i
+
+-- each task's runs total its work exactly
+unfoldable pub exactTotals : (ℕ → Job) → List ℕ → ℕ → List Run → Bool
+exactTotals job marks n runs =
+    eqb (lowest (λ k. not (eqb (totalOf runs k) (workOf (job k) (getD marks k 0)))) n) n
+
+-- the verdict: yes where all five hold
+unfoldable pub verdict : Table → List ℕ → List Run → Bool
+verdict t marks runs =
+    and (noneEmpty runs)
+    (and (inOrder runs) (and (knownTasks (t .count) runs) (and (inWindows (jobAt t) runs) (exactTotals (jobAt t) marks (t .count) runs))))
+
+-- The counts that come with a yes: marks 1 and 0 at optional parts above 0 ticks.
+unfoldable pub keptCount : Table → List ℕ → ℕ
+keptCount t marks = countBelow (λ k. and (counts (jobAt t k)) (eqb (getD marks k 0) 1)) (t .count)
+
+unfoldable pub discardedCount : Table → List ℕ → ℕ
+discardedCount t marks = countBelow (λ k. and (counts (jobAt t k)) (eqb (getD marks k 0) 0)) (t .count)
+
+-- the first mark above 1 of n, and n where there is none
+unfoldable pub firstBadMark : List ℕ → ℕ → ℕ
+firstBadMark marks n = lowest (λ k. ltb 1 (getD marks k 0)) n
+
+-- the reply of a refusal, of a no, and of a yes with its counts: parts that are not named are 0
+abbrev pub judgeDeclined : ℕ → ℕ → Judged
+judgeDeclined number place = record { number = number; place = place; yes = false; kept = 0; discarded = 0 }
+
+abbrev pub judgeSays : Bool → ℕ → ℕ → Judged
+judgeSays yes kept discarded = record { number = 0; place = 0; yes = yes; kept = pick yes kept 0; discarded = pick yes discarded 0 }
+
+-- what the judge replies on the table of an accepted file: 11, the length first, then 13, then the verdict
+unfoldable pub judgeTable : Table → List ℕ → List ℕ → List ℕ → List ℕ → Judged
+judgeTable t marks starts ends tasks =
+    pick (not (eqb (length marks) (t .count))) (judgeDeclined 11 (t .count))
+    (pick (ltb (firstBadMark marks (t .count)) (t .count)) (judgeDeclined 11 (firstBadMark marks (t .count)))
+    (pick (badColumns starts ends tasks) (judgeDeclined 13 0)
+    (judgeSays (verdict t marks (runsOf starts ends tasks)) (keptCount t marks) (discardedCount t marks))))
+
+-- the reply of judging: reading's refusals, then 11, then 13
+unfoldable pub judged : List ℕ → List ℕ → List ℕ → List ℕ → List ℕ → Judged
+judged file marks starts ends tasks =
+    pick (isAccepted (readAnswer file)) (judgeTable (tableIn file) marks starts ends tasks)
+    (judgeDeclined (numberOf (readAnswer file)) (placeOf (readAnswer file)))

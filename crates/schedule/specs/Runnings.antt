@@ -1,0 +1,43 @@
+-- What a running of jobs is (document 01's term; the field says schedule), whoever made it. It gives each tick to one task or to none, a task
+-- gets ticks of its window only, and as many as its mandatory ticks or as its mandatory and optional ticks together.
+use Prim.Native.Nat.{ℕ, _+_, _≤_, _<_}
+use mathlib.Core.Path.{_≡_}
+use mathlib.Core.Logic.{_⊎_}
+use mathlib.Core.List.{List, [], _∷_}
+use mathlib.Core.Option.{some}
+use lib.Dec.{eqb}
+use Rattle.base.specs.Tests.{and}
+use Rattle.schedule.specs.declared.Job.{Job}
+use Rattle.schedule.specs.Jobs.{counts}
+use Rattle.schedule.specs.Ticks.{Owner, ticksOf, one}
+
+-- every member of a list is P, and some member is
+abbrev pub All : {A : Type 0} → (A → Type 0) → List A → Type 0
+All P [] = Unit {0}
+All P (x ∷ xs) = P x × All P xs
+
+abbrev pub Any : {A : Type 0} → (A → Type 0) → List A → Type 0
+Any P [] = ⊥
+Any P (x ∷ xs) = P x ⊎ Any P xs
+
+-- the job has position i, and its window holds the tick
+abbrev pub Holds : ℕ → ℕ → Job → Type 0
+Holds tick i job = (job .position ≡ i) × (job .release ≤ tick) × (tick < job .deadline)
+
+-- the ticks that a job gets
+abbrev pub got : Owner → Job → ℕ
+got owner job = ticksOf owner (job .position) (job .release) (job .deadline)
+
+-- a job gets its mandatory ticks, or those and its optional ones
+abbrev pub Gets : Owner → Job → Type 0
+Gets owner job = (got owner job ≡ job .mandatory) ⊎ (got owner job ≡ job .mandatory + job .optional)
+
+-- a running of jobs: whoever has a tick is a job whose window holds it, and each job gets one of its two amounts
+pub record Running (jobs : List Job) (owner : Owner) : Type 0 where
+  pub inside : (tick i : ℕ) → owner tick ≡ some i → Any (Holds tick i) jobs
+  pub gets : All (Gets owner) jobs
+
+-- how many optional parts above 0 ticks a running discards: those whose job gets its mandatory ticks alone
+unfoldable pub discards : List Job → Owner → ℕ
+discards [] owner = 0
+discards (job ∷ jobs) owner = one (and (counts job) (eqb (got owner job) (job .mandatory))) + discards jobs owner

@@ -1,0 +1,46 @@
+-- Run lists, as three columns of numbers, and the owner of ticks that a run list describes.
+use Prim.Native.Nat.{ℕ, _+_, _-_}
+use mathlib.Core.Path.{_≡_}
+use mathlib.Core.List.{List, [], _∷_}
+use mathlib.Core.Bool.{Bool, true, false, not}
+use mathlib.Core.Option.{Option, none, some}
+use lib.Dec.{leb, ltb, eqb}
+use lib.ListN.{length, getD}
+use Rattle.base.specs.Limits.{maxRuns}
+use Rattle.base.specs.Tests.{pick, and, or}
+use Rattle.base.specs.Places.{places}
+use Rattle.schedule.specs.declared.Job.{Job}
+use Rattle.schedule.specs.Jobs.{workOf}
+use Rattle.schedule.specs.Ticks.{Owner}
+use Rattle.schedule.specs.Runnings.{All, got, Running}
+
+-- a run: its first tick, the tick after its last, and the task's position
+pub record Run : Type 0 where
+  pub start : ℕ
+  pub end : ℕ
+  pub task : ℕ
+
+-- more than 4,096 runs, or run columns of unequal length
+unfoldable pub badColumns : List ℕ → List ℕ → List ℕ → Bool
+badColumns starts ends tasks = or (ltb maxRuns (length starts)) (or (not (eqb (length starts) (length ends))) (not (eqb (length starts) (length tasks))))
+
+-- the run at an index of the columns, and the run list that they are
+unfoldable pub runAt : List ℕ → List ℕ → List ℕ → ℕ → Run
+runAt starts ends tasks k = record { start = getD starts k 0; end = getD ends k 0; task = getD tasks k 0 }
+
+unfoldable pub runsOf : List ℕ → List ℕ → List ℕ → List Run
+runsOf starts ends tasks = places (runAt starts ends tasks) (length starts)
+
+-- the run holds the tick
+abbrev pub holds : Run → ℕ → Bool
+holds run tick = and (leb (run .start) tick) (ltb tick (run .end))
+
+-- who has each tick: the task of the first run that holds it, or none
+unfoldable pub ownerOf : List Run → Owner
+ownerOf [] tick = none
+ownerOf (run ∷ runs) tick = pick (holds run tick) (some (run .task)) (ownerOf runs tick)
+
+-- a keep list and runs are together a running: the runs are one, and each job gets the work that its mark says
+pub record Together (jobs : List Job) (marks : List ℕ) (runs : List Run) : Type 0 where
+  pub running : Running jobs (ownerOf runs)
+  pub work : All (λ job. got (ownerOf runs) job ≡ workOf job (getD marks (job .position) 0)) jobs

@@ -1,0 +1,31 @@
+-- Ticks, who has them, and how many of them pass a test.
+use Prim.Native.Nat.{ℕ, zero, suc, _+_, _-_}
+use mathlib.Core.Bool.{Bool, true, false}
+use mathlib.Core.Option.{Option, none, some}
+use lib.Dec.{eqb}
+
+-- each tick has one task, by its position, or none
+abbrev pub Owner : Type 0
+Owner = ℕ → Option ℕ
+
+-- the owner of a tick is task i
+abbrev pub isTask : ℕ → Option ℕ → Bool
+isTask i none = false
+isTask i (some k) = eqb k i
+
+abbrev pub one : Bool → ℕ
+one true = 1
+one false = 0
+
+-- how many of the numbers below n pass a test
+unfoldable pub countBelow : (ℕ → Bool) → ℕ → ℕ
+countBelow test zero = 0
+countBelow test (suc n) = one (test n) + countBelow test n
+
+-- how many of the ticks from a, included, to b, excluded, pass a test
+abbrev pub countIn : (ℕ → Bool) → ℕ → ℕ → ℕ
+countIn test a b = countBelow test b - countBelow test a
+
+-- how many of the ticks from a to b task i has
+abbrev pub ticksOf : Owner → ℕ → ℕ → ℕ → ℕ
+ticksOf owner i a b = countIn (λ tick. isTask i (owner tick)) a b

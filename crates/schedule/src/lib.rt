@@ -1,0 +1,78 @@
+// Schedules: the tasks of a table in ticks, and the replies of the calls that look at finished plans. The definitions of a running, of run
+// lists and of what these calls answer stand in specs/.
+ghost use mathlib.Core.Path.{_≡_};
+ghost use Prim.Native.Nat.{_≤_, _<_};
+ghost use lib.Dec.{ltb};
+ghost use Rattle.base.specs.Limits.{maxTasks, maxRuns, lastFrame};
+ghost use Rattle.base.specs.Tests.{pick};
+ghost use Rattle.base.specs.Places.{places};
+ghost use Rattle.clock.specs.Clock.{LegalPeriod};
+ghost use Rattle.schedule.specs.Jobs.{noJob, jobOf, jobAt};
+ghost use Rattle.schedule.specs.Runs.{badColumns};
+
+use base::MAX_RUNS;
+use base::MAX_TASKS;
+use table::Table;
+use table::Task;
+
+// A task in ticks: its position, its window from the release tick, included, to the deadline tick, excluded, and its two lengths.
+pub struct Job {
+    pub position: u32,
+    pub release: u32,
+    pub deadline: u32,
+    pub mandatory: u32,
+    pub optional: u32,
+}
+
+// A job of which every number is 0: what stands at a place that holds no job.
+pub const NO_JOB: Job = Job {
+    position: 0,
+    release: 0,
+    deadline: 0,
+    mandatory: 0,
+    optional: 0,
+};
+
+// The reply of judging: the refusal's number and place; or 0, the verdict, and with a yes the counts kept and discarded.
+pub struct Judged {
+    pub number: u32,
+    pub place: usize,
+    pub yes: bool,
+    pub kept: u32,
+    pub discarded: u32,
+}
+
+// The reply of the busy count: the refusal's number and place, or 0 and the sum.
+pub struct Busy {
+    pub number: u32,
+    pub place: usize,
+    pub ticks: u64,
+}
+
+// More runs than the limit, or run columns of unequal length.
+pub fn bad_columns(starts: &[u32], ends: &[u32], tasks: &[u32]) -> bool
+    ensures { λ r. ⌜ r ≡ badColumns (now (starts .entry)) (now (ends .entry)) (now (tasks .entry)) ⌝ }
+{
+    if MAX_RUNS < starts.len() {
+        return true;
+    }
+    if starts.len() != ends.len() {
+        return true;
+    }
+    starts.len() != tasks.len()
+}
+
+// The task at a position, in ticks of the exact frame clock.
+pub fn job_of(task: Task, p: u32, q: u32, position: u32) -> Job
+    requires { ⌜ LegalPeriod p q ⌝ }
+    requires { ⌜ (task .release ≤ lastFrame) × (task .deadline ≤ lastFrame) ⌝ }
+    ensures { λ r. ⌜ r ≡ jobOf p q position task ⌝ }
+{
+    Job {
+        position,
+        release: clock::release_tick(task.release, p, q),
+        deadline: clock::deadline_tick(task.deadline, p, q),
+        mandatory: task.mandatory,
+        optional: task.optional,
+    }
+}
