@@ -21,7 +21,7 @@ use Rattle.table.specs.Answers.{numberOf, placeOf, isAccepted, declined, wrote}
 use Rattle.table.specs.Reading.{tableIn, readAnswer, reading}
 use Rattle.table.specs.Writing.{fileOf, contentAfter}
 use Rattle.table.specs.Moving.{movedTask, movedOutside, firstOutside, movedTable, moveReply, movedOver}
-use Rattle.table.proofs.Filling.{Filled}
+use Rattle.base.proofs.Filling.{Filled}
 use Rattle.table.proofs.FileLaws.{tableOf-same, fileOf-length}
 
 -- where the search for a task outside ends at the count, no task is outside
@@ -30,7 +30,7 @@ unfolding firstOutside
 none-outside shift t k e l = before (λ k. movedOutside shift (taskAt t k)) (t .count) k (omega arith)
 
 -- the constructor's table of the moved tasks is the moved table
-pub moved-filled : (shift : ℤ) (t : Table) (i : ℕ) (tasks : List Task) → t .count ≤ i → Filled (λ k. movedTask shift (taskAt t k)) (t .count) i tasks
+pub moved-filled : (shift : ℤ) (t : Table) (i : ℕ) (tasks : List Task) → t .count ≤ i → Filled noTask (λ k. movedTask shift (taskAt t k)) (t .count) i tasks
     → tableOf (t .count) (t .p) (t .q) (λ k. getD tasks k noTask) ≡ movedTable shift t
 unfolding movedTable
 moved-filled shift t i tasks l f =

@@ -5,7 +5,7 @@ use mathlib.Core.Bool.{Bool, true, false, not}
 use lib.Dec.{leb, ltb, eqb}
 use lib.ListN.{length, getD}
 use Rattle.base.specs.Tests.{pick, and}
-use Rattle.base.specs.Lowest.{lowest}
+use Rattle.base.specs.Lowest.{lowest, someBelow}
 use Rattle.table.specs.declared.Table.{Table}
 use Rattle.table.specs.Answers.{numberOf, placeOf, isAccepted}
 use Rattle.table.specs.Reading.{tableIn, readAnswer}
@@ -49,7 +49,7 @@ totalOf (run ∷ runs) i = pick (eqb (run .task) i) (run .end - run .start) 0 + 
 -- each task's runs total its work exactly
 unfoldable pub exactTotals : (ℕ → Job) → List ℕ → ℕ → List Run → Bool
 exactTotals job marks n runs =
-    eqb (lowest (λ k. not (eqb (totalOf runs k) (workOf (job k) (getD marks k 0)))) n) n
+    not (someBelow (λ k. not (eqb (totalOf runs k) (workOf (job k) (getD marks k 0)))) n)
 
 -- the verdict: yes where all five hold
 unfoldable pub verdict : Table → List ℕ → List Run → Bool
@@ -73,7 +73,7 @@ abbrev pub judgeDeclined : ℕ → ℕ → Judged
 judgeDeclined number place = record { number = number; place = place; yes = false; kept = 0; discarded = 0 }
 
 abbrev pub judgeSays : Bool → ℕ → ℕ → Judged
-judgeSays yes kept discarded = record { number = 0; place = 0; yes = yes; kept = pick yes kept 0; discarded = pick yes discarded 0 }
+judgeSays fair kept discarded = record { number = 0; place = 0; yes = fair; kept = pick fair kept 0; discarded = pick fair discarded 0 }
 
 -- what the judge replies on the table of an accepted file: 11, the length first, then 13, then the verdict
 unfoldable pub judgeTable : Table → List ℕ → List ℕ → List ℕ → List ℕ → Judged

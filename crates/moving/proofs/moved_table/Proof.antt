@@ -8,9 +8,9 @@ use lib.IntN.{ℤ}
 use mir.Syntax.{w32}
 use mir.Val.{toZ}
 use Rattle.base.proofs.LowestLaws.{before}
-use Rattle.table.specs.Tables.{taskAt}
+use Rattle.table.specs.Tables.{noTask, taskAt}
 use Rattle.table.specs.Moving.{movedTask, movedOutside, firstOutside, movedTable}
-use Rattle.table.proofs.Filling.{Filled, filled-start, filled-set}
+use Rattle.base.proofs.Filling.{Filled, filled-start, filled-set}
 use Rattle.moving.proofs.ShiftLaws.{as-passed}
 use Rattle.moving.proofs.MoveLaws.{none-outside, moved-filled}
 use Rattle.moving.proofs.moved_table.Statement.{statement}
@@ -18,7 +18,7 @@ use Rattle.moving.proofs.moved_table.Tie as tie
 
 abbrev Inv-loop : tie.InvT-loop
 Inv-loop shift table count tasks₀ i₀ tasks i =
-    (i ≤ table .count) × Filled (λ k. movedTask (toZ w32 shift) (taskAt table k)) (table .count) i tasks
+    (i ≤ table .count) × Filled noTask (λ k. movedTask (toZ w32 shift) (taskAt table k)) (table .count) i tasks
 
 abbrev μ-loop : tie.MeasureT-loop
 μ-loop shift table count tasks₀ i₀ tasks i = count - i
@@ -27,7 +27,7 @@ cast-count : tie.Need-cast-count Inv-loop μ-loop
 cast-count c = omega arith
 
 loop-holds : tie.Need-loop-holds Inv-loop μ-loop
-loop-holds c = (omega arith, filled-start _ _)
+loop-holds c = (omega arith, filled-start _ _ _)
 
 mul-task : tie.Need-mul-task Inv-loop μ-loop
 mul-task c = omega arith
@@ -57,7 +57,7 @@ loop-less c = omega arith
 loop-again : tie.Need-loop-again Inv-loop μ-loop
 unfolding taskAt
 loop-again c =
-    (omega arith, filled-set _ _ _ _ _ (omega arith) (omega arith) (c .moved-task .ensures) (c .before .before .before .loop .inv .1))
+    (omega arith, filled-set _ _ _ _ _ _ (omega arith) (omega arith) (c .moved-task .ensures) (c .before .before .before .loop .inv .1))
 
 new-requires : tie.Need-new-requires Inv-loop μ-loop
 new-requires c κs = search needs
