@@ -138,3 +138,8 @@ pub search-end : (test : ℕ → Bool) (n k : ℕ) → Searched test n k → n �
 search-end test n k s l =
     let e : n ≡ k = omega (arith, s .within-is) in
     rw (← e) (sym (from-end test n) ∙ rw e (rw e at (s .left)))
+
+-- no position is left, and so none passes
+pub search-none : (test : ℕ → Bool) (n k : ℕ) → Searched test n k → n ≤ k → someBelow test n ≡ false
+unfolding someBelow
+search-none test n k s l = le-ltb (lowest test n) n (omega (arith, search-end test n k s l))

@@ -1,8 +1,9 @@
 -- Laws of lists that are given place by place.
-use Prim.Native.Nat.{ℕ, zero, suc, _+_, _≤_, _<_}
+use Prim.Native.Nat.{ℕ, zero, suc, _+_, _-_, _≤_, _<_}
 use mathlib.Core.Path.{_≡_, refl, sym, ap}
 use mathlib.Core.List.{List, [], _∷_}
 use native.Mathlib.Omega.{arith}
+use native.Mathlib.Numerals.{add-one}
 use lib.ListN.{length, getD}
 use lib.Seq.{ext-getD}
 use Rattle.base.specs.Places.{placesFrom, places}
@@ -33,3 +34,22 @@ pub places-is : {A : Type 0} (at : ℕ → A) (n : ℕ) (d : A) (l : List A) →
 places-is at n d l e h =
     ext-getD d l (places at n) (rw (e, places-length at n))
     (λ k m. rw (places-at at n k d (omega arith)) (h k (omega arith)))
+
+-- A walk over the places from the first upwards: what is left at the beginning, at a place and at the end.
+pub left-start : {A : Type 0} (at : ℕ → A) (n : ℕ) → placesFrom at 0 (n - 0) ≡ places at n
+unfolding places
+left-start at n = let e : n - 0 ≡ n = omega arith in rw e
+
+left-in : {A : Type 0} (at : ℕ → A) (i b c : ℕ) → c ≡ suc b → placesFrom at i c ≡ at i ∷ placesFrom at (suc i) b
+unfolding placesFrom
+left-in at i b c e = rw e
+
+pub left-step : {A : Type 0} (at : ℕ → A) (n i : ℕ) → i < n → placesFrom at i (n - i) ≡ at i ∷ placesFrom at (i + 1) (n - (i + 1))
+left-step at n i l = rw add-one (left-in at i (n - suc i) (n - i) (omega arith))
+
+left-none : {A : Type 0} (at : ℕ → A) (i c : ℕ) → c ≡ 0 → placesFrom at i c ≡ []
+unfolding placesFrom
+left-none at i c e = rw e
+
+pub left-end : {A : Type 0} (at : ℕ → A) (n i : ℕ) → n ≤ i → placesFrom at i (n - i) ≡ []
+left-end at n i l = left-none at i (n - i) (omega arith)

@@ -1,6 +1,6 @@
 -- Laws of tests and of what a test picks.
 
-use mathlib.Core.Path.{_≡_, refl, subst, subst⁻¹}
+use mathlib.Core.Path.{_≡_, refl, sym, subst, subst⁻¹}
 use mathlib.Core.Bool.{Bool, true, false, not}
 use lib.Dec.{T}
 use Rattle.base.specs.Tests.{pick, and, or}
@@ -51,3 +51,9 @@ or-second a b p = rw p
 
 pub or-first : (a b : Bool) → a ≡ true → or a b ≡ true
 or-first a b p = rw p
+
+-- two tests are equal where each holds if the other does
+pub same-test : (a b : Bool) → (a ≡ true → b ≡ true) → (b ≡ true → a ≡ true) → a ≡ b
+same-test true b f g = sym (f refl)
+same-test false true f g = g refl
+same-test false false f g = refl

@@ -1,11 +1,12 @@
 // Schedules: the tasks of a table in ticks, and the replies of the calls that look at finished plans. The definitions of a running, of run
 // lists and of what these calls answer stand in specs/.
 ghost use mathlib.Core.Path.{_≡_};
-ghost use Prim.Native.Nat.{_≤_, _<_};
+ghost use Prim.Native.Nat.{ℕ, _≤_, _<_};
 ghost use lib.Dec.{ltb};
-ghost use Rattle.base.specs.Limits.{maxTasks, maxRuns, lastFrame};
+ghost use Rattle.base.specs.Limits.{maxTasks, lastFrame};
 ghost use Rattle.base.specs.Tests.{pick};
 ghost use Rattle.base.specs.Places.{places};
+ghost use Rattle.table.specs.Tables.{taskAt};
 ghost use Rattle.clock.specs.Clock.{LegalPeriod};
 ghost use Rattle.schedule.specs.Jobs.{noJob, jobOf, jobAt};
 ghost use Rattle.schedule.specs.Runs.{badColumns};
@@ -75,4 +76,22 @@ pub fn job_of(task: Task, p: u32, q: u32, position: u32) -> Job
         mandatory: task.mandatory,
         optional: task.optional,
     }
+}
+
+// The jobs of an accepted table, by position; the places beyond its count are 0.
+pub fn jobs_of(table: Table) -> [Job; MAX_TASKS]
+    requires { ⌜ table .count ≤ maxTasks ⌝ }
+    requires { ⌜ LegalPeriod (table .p) (table .q) ⌝ }
+    requires { ⌜ ((k : ℕ) → k < table .count → (taskAt table k .release ≤ lastFrame) × (taskAt table k .deadline ≤ lastFrame)) ⌝ }
+    ensures { λ r. ⌜ r ≡ places (λ k. pick (ltb k (table .count)) (jobAt table k) noJob) maxTasks ⌝ }
+{
+    let mut jobs = [NO_JOB; MAX_TASKS];
+    let count = table.count as usize;
+    let mut i: usize = 0;
+    while i < count {
+        let task = table.tasks[i];
+        jobs[i] = job_of(task, table.p, table.q, i as u32);
+        i += 1;
+    }
+    jobs
 }

@@ -26,7 +26,7 @@ use Rattle.table.specs.Tables.{noTask, taskAt, tableOf, Same}
 use Rattle.table.specs.Layout.{countWidth, periodWidth, frameWidth, ticksWidth, headerWidth, taskWidth, taskStart, fileLength, badCount, badPeriod}
 use Rattle.table.specs.Answers.{numberOf, placeOf, isAccepted, declined, wrote}
 use Rattle.table.specs.Windows.{reversed, nested, crosses, windowAnswer}
-use Rattle.table.specs.Writing.{taskBits, tasksBits, headerBits, tableBits, fileOf, tooWide, firstTooWide, writeReply}
+use Rattle.table.specs.Writing.{Legal, taskBits, tasksBits, headerBits, tableBits, fileOf, tooWide, firstTooWide, writeReply}
 
 -- The bits of a task are as many as its fields are wide.
 pub taskBits-length : (task : Task) → length (taskBits task) ≡ taskWidth
@@ -207,12 +207,6 @@ narrow-test task n =
     (or-false (leb (2 ^ ticksWidth) (task .mandatory)) (leb (2 ^ ticksWidth) (task .optional)) (lt-leb (2 ^ ticksWidth) (task .mandatory) (n .mandatory))
     (lt-leb (2 ^ ticksWidth) (task .optional) (n .optional))))
 
--- A table that writing accepts, where the list lent has room.
-pub record Legal (t : Table) : Type 0 where
-  pub counted : badCount (t .count) ≡ false
-  pub timed : badPeriod (t .p) (t .q) ≡ false
-  pub narrow : (k : ℕ) → k < t .count → tooWide (taskAt t k) ≡ false
-  pub windows : windowAnswer t ≡ Accepted
 
 -- The count of such a table.
 pub legal-count : {t : Table} → Legal t → (0 < t .count) × (t .count ≤ maxTasks)

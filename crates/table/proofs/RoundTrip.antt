@@ -25,7 +25,7 @@ use Rattle.table.specs.Layout.{countWidth, periodWidth, frameWidth, tick
 use Rattle.table.specs.Answers.{numberOf, placeOf, isAccepted, declined, wrote}
 use Rattle.table.specs.Windows.{reversed, contains, nested, windowAnswer}
 use Rattle.table.specs.Reading.{countIn, pIn, qIn, taskFrom, taskIn, tableIn, paddingSet, headAnswer, readAnswer, reading}
-use Rattle.table.specs.Writing.{taskBits, tasksBits, headerBits, tableBits, fileOf, tooWide, writeReply}
+use Rattle.table.specs.Writing.{Legal, taskBits, tasksBits, headerBits, tableBits, fileOf, tooWide, writeReply}
 use Rattle.table.specs.Moving.{movedFrame, outside, frameOf, movedTask, movedOutside, firstOutside, movedTable, moveReply}
 use Rattle.table.proofs.FileLaws.{
   taskBits-length,
@@ -45,7 +45,6 @@ use Rattle.table.proofs.FileLaws.{
   Narrow,
   narrow-known,
   narrow-test,
-  Legal,
   legal-count,
   accepted-legal,
   legal-accepted,

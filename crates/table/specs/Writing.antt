@@ -1,5 +1,6 @@
 -- Writing a table: its file, which refusal is sent, and what the lent list holds afterwards.
-use Prim.Native.Nat.{ℕ, zero, suc, _+_, _^_}
+use Prim.Native.Nat.{ℕ, zero, suc, _+_, _^_, _<_}
+use mathlib.Core.Path.{_≡_}
 use mathlib.Core.List.{List, [], _++_}
 use mathlib.Core.Bool.{Bool, true, false}
 use lib.Dec.{ltb, leb, eqb}
@@ -10,6 +11,7 @@ use Rattle.bits.specs.Bits.{bitsOf, pack}
 use Rattle.table.specs.declared.Task.{Task}
 use Rattle.table.specs.declared.Table.{Table}
 use Rattle.table.specs.declared.Written.{Written}
+use Rattle.table.specs.declared.Answer.the-variants.{Accepted}
 use Rattle.table.specs.Tables.{taskAt}
 use Rattle.table.specs.Layout.{countWidth, periodWidth, frameWidth, ticksWidth, fileLength, badCount, badPeriod}
 use Rattle.table.specs.Answers.{numberOf, placeOf, isAccepted, declined, wrote}
@@ -45,6 +47,13 @@ tooWide task =
 -- the lowest position with such a field, and the task count where there is none
 unfoldable pub firstTooWide : Table → ℕ
 firstTooWide t = lowest (λ k. tooWide (taskAt t k)) (t .count)
+
+-- a table that writing accepts, given room: no refusal but 9 holds
+pub record Legal (t : Table) : Type 0 where
+  pub counted : badCount (t .count) ≡ false
+  pub timed : badPeriod (t .p) (t .q) ≡ false
+  pub narrow : (k : ℕ) → k < t .count → tooWide (taskAt t k) ≡ false
+  pub windows : windowAnswer t ≡ Accepted
 
 -- the reply of writing into a list of `room` bytes; the refusals in order: 2, 5, 12, 6, 7, 9
 unfoldable pub writeReply : Table → ℕ → Written

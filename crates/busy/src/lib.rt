@@ -1,0 +1,43 @@
+// The busy count of an interval (an entry point): over all runs, the ticks that the run shares with the interval.
+ghost use mathlib.Core.Path.{_≡_};
+ghost use Rattle.schedule.specs.Runs.{Run};
+ghost use Rattle.schedule.specs.BusyCount.{shared, busyReply};
+
+use schedule::Busy;
+
+// The ticks that the run from `start` to `end` shares with the interval from `a` to `b`.
+fn shared_ticks(start: u32, end: u32, a: u32, b: u32) -> u64
+    ensures { λ r. ⌜ r ≡ shared a b (record { start = start; end = end; task = 0 }) ⌝ }
+{
+    let first = if start < a { a } else { start };
+    let last = if end < b { end } else { b };
+    if first < last {
+        return (last - first) as u64;
+    }
+    0
+}
+
+// The busy count: columns of any content and length and any interval get the reply of document 01. The sum is meant for runs that do not
+// overlap, and is taken over any.
+pub fn busy(starts: &[u32], ends: &[u32], tasks: &[u32], a: u32, b: u32) -> Busy
+    ensures { λ r. ⌜ r ≡ busyReply (now (starts .entry)) (now (ends .entry)) (now (tasks .entry)) a b ⌝ }
+{
+    if schedule::bad_columns(starts, ends, tasks) {
+        return Busy {
+            number: 13,
+            place: 0,
+            ticks: 0,
+        };
+    }
+    let mut ticks: u64 = 0;
+    let mut i: usize = 0;
+    while i < starts.len() {
+        ticks += shared_ticks(starts[i], ends[i], a, b);
+        i += 1;
+    }
+    Busy {
+        number: 0,
+        place: 0,
+        ticks,
+    }
+}

@@ -1,0 +1,147 @@
+// Judging a keep list and a run list (an entry point): one pass over the runs and one over the tasks, in a fixed amount of memory.
+ghost use mathlib.Core.Path.{_≡_};
+ghost use mathlib.Core.Bool.{true, not};
+ghost use Prim.Native.Nat.{ℕ, _≤_, _<_};
+ghost use lib.Dec.{eqb};
+ghost use lib.ListN.{length, getD};
+ghost use Rattle.base.specs.Limits.{maxTasks, maxRuns};
+ghost use Rattle.base.specs.Tests.{and};
+ghost use Rattle.base.specs.Lowest.{someBelow};
+ghost use Rattle.table.specs.Writing.{Legal};
+ghost use Rattle.schedule.specs.Jobs.{noJob, workOf, counts};
+ghost use Rattle.schedule.specs.Ticks.{countBelow};
+ghost use Rattle.schedule.specs.Runs.{runsOf};
+ghost use Rattle.schedule.specs.Judging.{totalOf, exactTotals, firstBadMark, judgeDeclined, judgeSays, judgeTable, judged};
+ghost use Rattle.judging.specs.Passing.{passes, runFits};
+
+use base::MAX_TASKS;
+use schedule::Job;
+use schedule::Judged;
+use table::Answer;
+use table::Table;
+
+// What the pass over the runs comes to: whether every run fits, and then the ticks that the runs of each task total.
+struct Pass {
+    fits: bool,
+    totals: [u64; MAX_TASKS],
+}
+
+// The reply of a refusal.
+fn declined(number: u32, place: usize) -> Judged
+    ensures { λ r. ⌜ r ≡ judgeDeclined number place ⌝ }
+{
+    Judged {
+        number,
+        place,
+        yes: false,
+        kept: 0,
+        discarded: 0,
+    }
+}
+
+// The first mark above 1, and the number of marks where there is none.
+fn first_bad_mark(marks: &[u8]) -> usize
+    ensures { λ r. ⌜ r ≡ firstBadMark (now (marks .entry)) (length (now (marks .entry))) ⌝ }
+{
+    let mut k: usize = 0;
+    while k < marks.len() {
+        if 1 < marks[k] {
+            return k;
+        }
+        k += 1;
+    }
+    k
+}
+
+// A run of a job is not empty, starts at tick `from` or later, and is inside the job's window.
+fn run_fits(job: Job, from: u32, start: u32, end: u32) -> bool
+    ensures { λ r. ⌜ r ≡ runFits job from start end ⌝ }
+{
+    if end <= start {
+        return false;
+    }
+    if start < from {
+        return false;
+    }
+    if start < job.release {
+        return false;
+    }
+    end <= job.deadline
+}
+
+// The pass over the runs: each follows the one before, is not empty, has a known task and is inside its window.
+fn pass_runs(jobs: [Job; MAX_TASKS], count: u32, starts: &[u32], ends: &[u32], tasks: &[u32]) -> Pass
+    requires { ⌜ count ≤ maxTasks ⌝ }
+    requires { ⌜ length (now starts) ≤ maxRuns ⌝ }
+    requires { ⌜ length (now starts) ≡ length (now ends) ⌝ }
+    requires { ⌜ length (now starts) ≡ length (now tasks) ⌝ }
+    ensures { λ r. ⌜ (r .fits ≡ passes (λ k. getD jobs k noJob) count 0 (runsOf (now (starts .entry)) (now (ends .entry)) (now (tasks .entry)))) × (r .fits ≡ true → (k : ℕ) → k < maxTasks → getD (r .totals) k 0 ≡ totalOf (runsOf (now (starts .entry)) (now (ends .entry)) (now (tasks .entry))) k) ⌝ }
+{
+    let mut totals = [0u64; MAX_TASKS];
+    let mut from: u32 = 0;
+    let mut i: usize = 0;
+    while i < starts.len() {
+        let task = tasks[i];
+        if count <= task {
+            return Pass { fits: false, totals };
+        }
+        let k = task as usize;
+        let job = jobs[k];
+        let start = starts[i];
+        let end = ends[i];
+        if !run_fits(job, from, start, end) {
+            return Pass { fits: false, totals };
+        }
+        totals[k] = totals[k] + (end - start) as u64;
+        from = end;
+        i += 1;
+    }
+    Pass { fits: true, totals }
+}
+
+// The work of a job under a mark: its mandatory ticks, plus its optional ticks where kept.
+fn work(job: Job, mark: u8) -> u64
+    ensures { λ r. ⌜ r ≡ workOf job mark ⌝ }
+{
+    if mark == 1 {
+        return job.mandatory as u64 + job.optional as u64;
+    }
+    job.mandatory as u64
+}
+
+// Each task's runs total its work exactly.
+fn totals_exact(jobs: [Job; MAX_TASKS], count: u32, marks: &[u8], totals: [u64; MAX_TASKS]) -> bool
+    requires { ⌜ count ≤ maxTasks ⌝ }
+    requires { ⌜ length (now marks) ≡ count ⌝ }
+    ensures { λ r. ⌜ r ≡ not (someBelow (λ k. not (eqb (getD totals k 0) (workOf (getD jobs k noJob) (getD (now (marks .entry)) k 0)))) count) ⌝ }
+{
+    let mut k: usize = 0;
+    while k < marks.len() {
+        let job = jobs[k];
+        if totals[k] != work(job, marks[k]) {
+            return false;
+        }
+        k += 1;
+    }
+    true
+}
+
+// How many optional parts above 0 ticks have a mark.
+fn count_marked(jobs: [Job; MAX_TASKS], count: u32, marks: &[u8], mark: u8) -> u32
+    requires { ⌜ count ≤ maxTasks ⌝ }
+    requires { ⌜ length (now marks) ≡ count ⌝ }
+    ensures { λ r. ⌜ r ≡ countBelow (λ k. and (counts (getD jobs k noJob)) (eqb (getD (now (marks .entry)) k 0) mark)) count ⌝ }
+{
+    let mut marked: u32 = 0;
+    let mut k: usize = 0;
+    while k < marks.len() {
+        let job = jobs[k];
+        if 0 < job.optional {
+            if marks[k] == mark {
+                marked += 1;
+            }
+        }
+        k += 1;
+    }
+    marked
+}

@@ -1,0 +1,343 @@
+-- Laws of judging: a yes is said exactly where a keep list and runs are together a running, and what it counts is what the running discards.
+use Prim.Native.Nat.{ℕ, zero, suc, _+_, _-_, _≤_, _<_}
+use mathlib.Core.Path.{_≡_, refl, sym, ap, _∙_}
+use mathlib.Core.Logic.{_↔_, inl, inr}
+use mathlib.Core.List.{List, [], _∷_}
+use mathlib.Core.Bool.{Bool, true, not}
+use mathlib.Core.Option.{some}
+use native.Mathlib.Omega.{arith}
+use native.Mathlib.Decide.{decLe}
+use lib.Dec.{leb, ltb, eqb}
+use lib.ListN.{getD}
+use borrow.Author.Tests.{leb-true, ltb-true, eqb-true, eqb-false, le-leb, lt-ltb, eq-eqb, ne-eqb, not-true, not-false}
+use Rattle.base.specs.Tests.{and}
+use Rattle.base.specs.Lowest.{someBelow}
+use Rattle.base.specs.Places.{placesFrom, places}
+use Rattle.base.proofs.TestLaws.{cases, and-true, and-left, and-right}
+use Rattle.base.proofs.LowestLaws.{no-some, none-some}
+use Rattle.table.specs.declared.Table.{Table}
+use Rattle.schedule.specs.declared.Job.{Job}
+use Rattle.schedule.specs.Jobs.{jobOf, jobAt, jobsOf, workOf, counts}
+use Rattle.schedule.specs.Ticks.{Owner, one, countBelow}
+use Rattle.schedule.specs.Runnings.{All, Any, Holds, got, Gets, discards}
+use Rattle.schedule.specs.Runs.{Run, holds, ownerOf, Together}
+use Rattle.schedule.specs.Judging.{noneEmpty, inOrder, knownTasks, inWindows, totalOf, exactTotals, verdict, discardedCount}
+use Rattle.schedule.proofs.RunLaws.{in-holds, holds-in, first-nonempty, rest-nonempty, owner-is-run, owner-has-run, run-ticks}
+
+-- Members of lists.
+
+-- where P gives Q, it does so for all members
+pub all-map : {A : Type 0} (P Q : A → Type 0) (xs : List A) → ((x : A) → P x → Q x) → All P xs → All Q xs
+all-map P Q [] f h = tt
+all-map P Q (x ∷ xs) f h = (f x (h .0), all-map P Q xs f (h .1))
+
+-- and for some member
+pub any-map : {A : Type 0} (P Q : A → Type 0) (xs : List A) → ((x : A) → P x → Q x) → Any P xs → Any Q xs
+any-map P Q (x ∷ xs) f (inl h) = inl (f x h)
+any-map P Q (x ∷ xs) f (inr h) = inr (any-map P Q xs f h)
+
+-- all members are P exactly where whatever is a member is P
+pub all-members : {A : Type 0} (P : A → Type 0) (xs : List A) → All P xs ↔ ((x : A) → Any (λ y. y ≡ x) xs → P x)
+all-members P xs = (to xs, fro xs)
+  where
+    to : (xs : List _) → All P xs → (x : _) → Any (λ y. y ≡ x) xs → P x
+    to (y ∷ ys) h x (inl e) = rw e at (h .0)
+    to (y ∷ ys) h x (inr m) = to ys (h .1) x m
+
+    fro : (xs : List _) → ((x : _) → Any (λ y. y ≡ x) xs → P x) → All P xs
+    fro [] h = tt
+    fro (x ∷ xs) h = (h x (inl refl), fro xs (λ y m. h y (inr m)))
+
+-- where some member is P, there is one
+pub any-member : {A : Type 0} (P : A → Type 0) (xs : List A) → Any P xs → (x : A) × Any (λ y. y ≡ x) xs × P x
+any-member P (x ∷ xs) (inl h) = (x, inl refl, h)
+any-member P (x ∷ xs) (inr h) = let m = any-member P xs h in (m .0, inr (m .1), m .2)
+
+-- Members of a list that is given place by place.
+
+all-from : {A : Type 0} (P : A → Type 0) (at : ℕ → A) (i n : ℕ) → All P (placesFrom at i n) ↔ ((k : ℕ) → i ≤ k → k < i + n → P (at k))
+unfolding placesFrom
+all-from P at i n = (to i n, fro i n)
+  where
+    to : (i n : ℕ) → All P (placesFrom at i n) → (k : ℕ) → i ≤ k → k < i + n → P (at k)
+    to i zero h k l m = absurd (omega arith)
+    to i (suc n) h k l m =
+        elim (decLe (suc i) k) [
+          | yes q ↦ to (suc i) n (h .1) k q (omega arith)
+          | no q ↦ let e : i ≡ k = omega arith in rw (← e) (h .0)
+        ]
+
+    fro : (i n : ℕ) → ((k : ℕ) → i ≤ k → k < i + n → P (at k)) → All P (placesFrom at i n)
+    fro i zero h = tt
+    fro i (suc n) h = (h i (omega arith) (omega arith), fro (suc i) n (λ k l m. h k (omega arith) (omega arith)))
+
+-- all members are P exactly where what stands at each place is
+pub all-places : {A : Type 0} (P : A → Type 0) (at : ℕ → A) (n : ℕ) → All P (places at n) ↔ ((k : ℕ) → k < n → P (at k))
+unfolding places
+all-places P at n = (
+  λ h k l. all-from P at 0 n .0 h k (omega arith) (omega arith),
+  λ h. all-from P at 0 n .1 (λ k l m. h k (omega arith)),
+)
+
+any-from : {A : Type 0} (P : A → Type 0) (at : ℕ → A) (i n : ℕ) → Any P (placesFrom at i n) → (k : ℕ) × (i ≤ k) × (k < i + n) × P (at k)
+unfolding placesFrom
+any-from P at i (suc n) (inl h) = (i, omega arith, omega arith, h)
+any-from P at i (suc n) (inr h) =
+    let m = any-from P at (suc i) n h in
+    let l = m .1 in
+    let r = m .2 in
+    (m .0, omega arith, omega arith, m .3)
+
+from-any : {A : Type 0} (P : A → Type 0) (at : ℕ → A) (i n k : ℕ) → i ≤ k → k < i + n → P (at k) → Any P (placesFrom at i n)
+unfolding placesFrom
+from-any P at i zero k l m h = absurd (omega arith)
+from-any P at i (suc n) k l m h =
+    elim (decLe (suc i) k) [
+      | yes q ↦ inr (from-any P at (suc i) n k q (omega arith) h)
+      | no q ↦ let e : i ≡ k = omega arith in inl (rw e h)
+    ]
+
+-- some member is P exactly where what stands at some place is
+pub any-places : {A : Type 0} (P : A → Type 0) (at : ℕ → A) (n : ℕ) → Any P (places at n) ↔ ((k : ℕ) × (k < n) × P (at k))
+unfolding places
+any-places P at n = (
+  λ h. let m = any-from P at 0 n h in let l = m .2 in (m .0, omega arith, m .3),
+  λ m. from-any P at 0 n (m .0) (omega arith) (omega (arith, m .1)) (m .2),
+)
+
+-- The conditions of the verdict, as facts of each run and of each task.
+
+-- every start is below its end
+pub nonempty-each : (runs : List Run) → (noneEmpty runs ≡ true) ↔ All (λ run. run .start < run .end) runs
+unfolding noneEmpty
+nonempty-each [] = (λ e. tt, λ h. refl)
+nonempty-each (run ∷ runs) = (
+  λ e. (first-nonempty run runs e, nonempty-each runs .0 (rest-nonempty run runs e)),
+  λ h. and-true (ltb (run .start) (run .end)) (noneEmpty runs) (lt-ltb (run .start) (run .end) (h .0)) (nonempty-each runs .1 (h .1)),
+)
+
+-- every task number is below n
+pub known-each : (n : ℕ) (runs : List Run) → (knownTasks n runs ≡ true) ↔ All (λ run. run .task < n) runs
+unfolding knownTasks
+known-each n [] = (λ e. tt, λ h. refl)
+known-each n (run ∷ runs) = (
+  λ e. (
+    ltb-true (run .task) n (and-left (ltb (run .task) n) (knownTasks n runs) e),
+    known-each n runs .0 (and-right (ltb (run .task) n) (knownTasks n runs) e),
+  ),
+  λ h. and-true (ltb (run .task) n) (knownTasks n runs) (lt-ltb (run .task) n (h .0)) (known-each n runs .1 (h .1)),
+)
+
+-- the run lies in its window
+abbrev pub InWindow : (ℕ → Job) → Run → Type 0
+InWindow job run = (job (run .task) .release ≤ run .start) × (run .end ≤ job (run .task) .deadline)
+
+window-test : (lo start end hi : ℕ) → (and (leb lo start) (leb end hi) ≡ true) ↔ ((lo ≤ start) × (end ≤ hi))
+window-test lo start end hi = (
+  λ e. (leb-true lo start (and-left (leb lo start) (leb end hi) e), leb-true end hi (and-right (leb lo start) (leb end hi) e)),
+  λ h. and-true (leb lo start) (leb end hi) (le-leb lo start (h .0)) (le-leb end hi (h .1)),
+)
+
+-- every run is inside its window
+pub windows-each : (job : ℕ → Job) (runs : List Run) → (inWindows job runs ≡ true) ↔ All (InWindow job) runs
+unfolding inWindows
+windows-each job [] = (λ e. tt, λ h. refl)
+windows-each job (run ∷ runs) =
+    let lo = job (run .task) .release in
+    let hi = job (run .task) .deadline in
+    let b = and (leb lo (run .start)) (leb (run .end) hi) in
+    let w = window-test lo (run .start) (run .end) hi in (
+      λ e. (w .0 (and-left b (inWindows job runs) e), windows-each job runs .0 (and-right b (inWindows job runs) e)),
+      λ h. and-true b (inWindows job runs) (w .1 (h .0)) (windows-each job runs .1 (h .1)),
+    )
+
+-- each task's runs total its work
+pub totals-each : (job : ℕ → Job) (marks : List ℕ) (n : ℕ) (runs : List Run)
+    → (exactTotals job marks n runs ≡ true) ↔ ((k : ℕ) → k < n → totalOf runs k ≡ workOf (job k) (getD marks k 0))
+unfolding exactTotals
+totals-each job marks n runs =
+    let test : ℕ → Bool = λ k. not (eqb (totalOf runs k) (workOf (job k) (getD marks k 0))) in (
+      λ e k l.
+          eqb-true (totalOf runs k) (workOf (job k) (getD marks k 0))
+          (not-false (eqb (totalOf runs k) (workOf (job k) (getD marks k 0))) (no-some test n (not-true (someBelow test n) e) k l)),
+      λ h. rw (none-some test n (λ k l. rw (eq-eqb (totalOf runs k) (workOf (job k) (getD marks k 0)) (h k l)))),
+    )
+
+-- the verdict is yes exactly where all five hold
+pub verdict-five : (t : Table) (marks : List ℕ) (runs : List Run)
+    → (verdict t marks runs ≡ true)
+    ↔ ((noneEmpty runs ≡ true) × (inOrder runs ≡ true) × (knownTasks (t .count) runs ≡ true) × (inWindows (jobAt t) runs ≡ true)
+    × (exactTotals (jobAt t) marks (t .count) runs ≡ true))
+unfolding verdict
+verdict-five t marks runs = five (noneEmpty runs) (inOrder runs) (knownTasks (t .count) runs) (inWindows (jobAt t) runs) (exactTotals (jobAt t) marks (t .count) runs)
+  where
+    five : (a b c d e : Bool) → (and a (and b (and c (and d e))) ≡ true) ↔ ((a ≡ true) × (b ≡ true) × (c ≡ true) × (d ≡ true) × (e ≡ true))
+    five a b c d e = (
+      λ h.
+          let h₁ = and-right a (and b (and c (and d e))) h in
+          let h₂ = and-right b (and c (and d e)) h₁ in
+          let h₃ = and-right c (and d e) h₂ in
+          (and-left a (and b (and c (and d e))) h, and-left b (and c (and d e)) h₁, and-left c (and d e) h₂, and-left d e h₃, and-right d e h₃),
+      λ h. rw (h .0, h .1, h .2, h .3, h .4),
+    )
+
+-- The jobs of a table.
+
+-- the job at a position has it
+pub job-position : (t : Table) (k : ℕ) → jobAt t k .position ≡ k
+unfolding jobAt jobOf
+job-position t k = refl
+
+-- a job of position i holds a tick exactly where i is in the table and the window at i has the tick
+pub job-holds : (t : Table) (tick i : ℕ)
+    → Any (Holds tick i) (jobsOf t) ↔ ((i < t .count) × (jobAt t i .release ≤ tick) × (tick < jobAt t i .deadline))
+unfolding jobsOf
+job-holds t tick i = (
+  λ h.
+      let m = any-places (Holds tick i) (jobAt t) (t .count) .0 h in
+      let e : m .0 ≡ i = sym (job-position t (m .0)) ∙ m .2 .0 in
+      (rw e at (m .1), rw e at (m .2 .1), rw e at (m .2 .2)),
+  λ h. any-places (Holds tick i) (jobAt t) (t .count) .1 (i, h .0, (job-position t i, h .1, h .2)),
+)
+
+-- in order and in the windows, a task's job gets what the task's runs total
+pub got-total : (t : Table) (runs : List Run) → noneEmpty runs ≡ true → inOrder runs ≡ true → All (InWindow (jobAt t)) runs
+    → (k : ℕ) → got (ownerOf runs) (jobAt t k) ≡ totalOf runs k
+unfolding inOrder
+got-total t runs ne io w k =
+    rw (job-position t k)
+    (run-ticks 0 runs ne io k (jobAt t k .release) (jobAt t k .deadline)
+    (all-map (InWindow (jobAt t)) (λ run. run .task ≡ k → (jobAt t k .release ≤ run .start) × (run .end ≤ jobAt t k .deadline)) runs
+    (λ run h e. rw (← e) h) w))
+
+-- a job that gets the work of its mark gets one of its two amounts
+work-gets : (owner : Owner) (job : Job) (mark : ℕ) → got owner job ≡ workOf job mark → Gets owner job
+work-gets owner job mark e =
+    cases (eqb mark 1)
+    (λ h. inr (rw h at e))
+    (λ h. let q : got owner job ≡ job .mandatory + 0 = rw h at e in inl (omega arith))
+
+-- in the windows, whoever has a tick is in the table and has it in its window
+owned-in : (t : Table) (runs : List Run) → All (λ run. run .task < t .count) runs → All (InWindow (jobAt t)) runs
+    → (tick i : ℕ) → ownerOf runs tick ≡ some i → (i < t .count) × (jobAt t i .release ≤ tick) × (tick < jobAt t i .deadline)
+owned-in t runs known win tick i e =
+    let m = any-member (λ run. (holds run tick ≡ true) × (run .task ≡ i)) runs (owner-has-run runs tick i e) in
+    let h = holds-in (m .0) tick (m .2 .0) in
+    let k : i < t .count = rw (m .2 .1) at (all-members (λ run. run .task < t .count) runs .0 known (m .0) (m .1)) in
+    let w : (jobAt t i .release ≤ m .0 .start) × (m .0 .end ≤ jobAt t i .deadline) = rw (m .2 .1) at (all-members (InWindow (jobAt t)) runs .0 win (m .0) (m .1)) in
+    (k, omega arith, omega arith)
+
+-- a yes: the keep list and the runs are together a running
+yes-together : (t : Table) (marks : List ℕ) (runs : List Run) → noneEmpty runs ≡ true → inOrder runs ≡ true → All (λ run. run .task < t .count) runs
+    → All (InWindow (jobAt t)) runs → ((k : ℕ) → k < t .count → totalOf runs k ≡ workOf (jobAt t k) (getD marks k 0)) → Together (jobsOf t) marks runs
+unfolding jobsOf
+yes-together t marks runs ne io known win total =
+    let Works : Job → Type 0 = λ job. got (ownerOf runs) job ≡ workOf job (getD marks (job .position) 0) in
+    let works = all-places Works (jobAt t) (t .count) .1 (λ k l. got-total t runs ne io win k ∙ rw (job-position t k) (total k l)) in
+    record {
+      running = record {
+        inside = λ tick i e. job-holds t tick i .1 (owned-in t runs known win tick i e);
+        gets = all-map Works (Gets (ownerOf runs)) (jobsOf t) (λ job e. work-gets (ownerOf runs) job (getD marks (job .position) 0) e) works;
+      };
+      work = works;
+    }
+
+-- together a running: each job gets the work of its mark
+pub together-work : (t : Table) (marks : List ℕ) (runs : List Run) → Together (jobsOf t) marks runs
+    → (k : ℕ) → k < t .count → got (ownerOf runs) (jobAt t k) ≡ workOf (jobAt t k) (getD marks k 0)
+unfolding jobsOf
+together-work t marks runs g k l =
+    all-places (λ job. got (ownerOf runs) job ≡ workOf job (getD marks (job .position) 0)) (jobAt t) (t .count) .0 (g .work) k l
+    ∙ ap (λ p. workOf (jobAt t k) (getD marks p 0)) (job-position t k)
+
+-- together a running: each run's task is in the table and has the run's ticks in its window
+run-tick : (t : Table) (marks : List ℕ) (runs : List Run) → noneEmpty runs ≡ true → inOrder runs ≡ true → Together (jobsOf t) marks runs
+    → (run : Run) → Any (λ r. r ≡ run) runs → (tick : ℕ) → run .start ≤ tick → tick < run .end
+    → (run .task < t .count) × (jobAt t (run .task) .release ≤ tick) × (tick < jobAt t (run .task) .deadline)
+unfolding inOrder
+run-tick t marks runs ne io g run m tick a b =
+    let held = any-map (λ r. r ≡ run) (λ r. (holds r tick ≡ true) × (r .task ≡ run .task)) runs (λ r e. rw e (in-holds run tick a b, refl)) m in
+    job-holds t tick (run .task) .0 (g .running .inside tick (run .task) (owner-is-run 0 runs ne io tick (run .task) held))
+
+-- so the run lies in its window
+run-inside : (t : Table) (marks : List ℕ) (runs : List Run) → noneEmpty runs ≡ true → inOrder runs ≡ true → Together (jobsOf t) marks runs
+    → (run : Run) → Any (λ r. r ≡ run) runs → (run .task < t .count) × InWindow (jobAt t) run
+run-inside t marks runs ne io g run m =
+    let l = all-members (λ r. r .start < r .end) runs .0 (nonempty-each runs .0 ne) run m in
+    let first = run-tick t marks runs ne io g run m (run .start) (omega arith) l in
+    let last = run-tick t marks runs ne io g run m (run .end - 1) (omega arith) (omega arith) in
+    (first .0, (first .1, omega arith))
+
+-- together a running: each task's runs total its work
+together-total : (t : Table) (marks : List ℕ) (runs : List Run) → noneEmpty runs ≡ true → inOrder runs ≡ true → All (InWindow (jobAt t)) runs
+    → Together (jobsOf t) marks runs → (k : ℕ) → k < t .count → totalOf runs k ≡ workOf (jobAt t k) (getD marks k 0)
+together-total t marks runs ne io win g k l = sym (got-total t runs ne io win k) ∙ together-work t marks runs g k l
+
+-- the theorem of the judge: yes exactly where the runs are not empty, are in order, and are with the keep list a running
+pub judge-verdict : (t : Table) (marks : List ℕ) (runs : List Run)
+    → (verdict t marks runs ≡ true) ↔ ((noneEmpty runs ≡ true) × (inOrder runs ≡ true) × Together (jobsOf t) marks runs)
+judge-verdict t marks runs = (
+  λ e.
+      let v = verdict-five t marks runs .0 e in (
+        v .0,
+        v .1,
+        yes-together t marks runs (v .0) (v .1) (known-each (t .count) runs .0 (v .2)) (windows-each (jobAt t) runs .0 (v .3))
+            (totals-each (jobAt t) marks (t .count) runs .0 (v .4)),
+      ),
+  λ h.
+      let inside = run-inside t marks runs (h .0) (h .1) (h .2) in
+      let known = all-members (λ run. run .task < t .count) runs .1 (λ run m. inside run m .0) in
+      let win = all-members (InWindow (jobAt t)) runs .1 (λ run m. inside run m .1) in
+      verdict-five t marks runs .1 (
+        h .0,
+        h .1,
+        known-each (t .count) runs .1 known,
+        windows-each (jobAt t) runs .1 win,
+        totals-each (jobAt t) marks (t .count) runs .1 (together-total t marks runs (h .0) (h .1) win (h .2)),
+      ),
+)
+
+-- what a running discards, from place i on
+discards-from : (at : ℕ → Job) (owner : Owner) (test : ℕ → Bool) (i n : ℕ)
+    → ((k : ℕ) → i ≤ k → k < i + n → and (counts (at k)) (eqb (got owner (at k)) (at k .mandatory)) ≡ test k)
+    → discards (placesFrom at i n) owner + countBelow test i ≡ countBelow test (i + n)
+unfolding discards placesFrom countBelow
+discards-from at owner test i zero h = let e : i + 0 ≡ i = omega arith in rw e (omega arith)
+discards-from at owner test i (suc n) h =
+    let e : suc i + n ≡ i + suc n = omega arith in
+    let q = discards-from at owner test (suc i) n (λ k l m. h k (omega arith) (omega arith)) in
+    rw (← e) (omega (arith, q, ap one (h i (omega arith) (omega arith))))
+
+-- what a running discards, place by place
+pub discards-places : (at : ℕ → Job) (owner : Owner) (test : ℕ → Bool) (n : ℕ)
+    → ((k : ℕ) → k < n → and (counts (at k)) (eqb (got owner (at k)) (at k .mandatory)) ≡ test k) → discards (places at n) owner ≡ countBelow test n
+unfolding places countBelow
+discards-places at owner test n h =
+    let e : 0 + n ≡ n = omega arith in
+    omega (arith, rw e at (discards-from at owner test 0 n (λ k l m. h k (omega arith))))
+
+-- a job that gets the work of its mark has its optional part discarded exactly where it has one and the mark is 0
+pub discarded-mark : (owner : Owner) (job : Job) (mark : ℕ) → mark ≤ 1 → got owner job ≡ workOf job mark
+    → and (counts job) (eqb (got owner job) (job .mandatory)) ≡ and (counts job) (eqb mark 0)
+discarded-mark owner job mark l e =
+    cases (counts job)
+    (λ c.
+    let o = ltb-true 0 (job .optional) c in
+    cases (eqb mark 1)
+    (λ h.
+    let m = eqb-true mark 1 h in
+    let q : got owner job ≡ job .mandatory + job .optional = rw h at e in
+    rw (c, ne-eqb (got owner job) (job .mandatory) (λ z. omega arith), ne-eqb mark 0 (λ z. omega arith)))
+    (λ h.
+    let m = eqb-false mark 1 h in
+    let q : got owner job ≡ job .mandatory + 0 = rw h at e in
+    rw (c, eq-eqb (got owner job) (job .mandatory) (omega arith), eq-eqb mark 0 (omega arith))))
+    (λ c. rw c)
+
+-- the discarded count of the judge is what the running discards
+pub together-discards : (t : Table) (marks : List ℕ) (runs : List Run) → ((k : ℕ) → k < t .count → getD marks k 0 ≤ 1)
+    → Together (jobsOf t) marks runs → discards (jobsOf t) (ownerOf runs) ≡ discardedCount t marks
+unfolding jobsOf discardedCount
+together-discards t marks runs low g =
+    discards-places (jobAt t) (ownerOf runs) (λ k. and (counts (jobAt t k)) (eqb (getD marks k 0) 0)) (t .count)
+    (λ k l. discarded-mark (ownerOf runs) (jobAt t k) (getD marks k 0) (low k l) (together-work t marks runs g k l))

@@ -1,0 +1,4 @@
+pub mod TickLaws
+pub mod RunLaws
+pub mod JudgeLaws
+pub mod BusyLaws

@@ -1,0 +1,168 @@
+-- Laws of runs: which ticks a run holds, who owns a tick, and how many ticks a task has.
+use Prim.Native.Nat.{ℕ, zero, suc, _+_, _-_, _≤_, _<_, min}
+use mathlib.Core.Path.{_≡_, refl}
+use mathlib.Core.Logic.{inl, inr}
+use mathlib.Core.List.{List, [], _∷_}
+use mathlib.Core.Bool.{true, false}
+use mathlib.Core.Option.{Option, none, some}
+use native.Mathlib.Omega.{arith}
+use lib.Dec.{leb, ltb, eqb}
+use borrow.Author.Tests.{leb-true, leb-false, ltb-true, ltb-false, le-leb, lt-leb, lt-ltb, le-ltb, eqb-true}
+use Rattle.base.specs.Tests.{pick, and}
+use Rattle.base.proofs.TestLaws.{cases, and-left, and-right}
+use Rattle.schedule.specs.Ticks.{isTask, one, countBelow, ticksOf}
+use Rattle.schedule.specs.Runnings.{All, Any}
+use Rattle.schedule.specs.Runs.{Run, holds, ownerOf}
+use Rattle.schedule.specs.Judging.{noneEmpty, followFrom, totalOf}
+use Rattle.schedule.proofs.TickLaws.{count-none, count-split}
+
+-- a tick that a run holds is in it
+pub holds-in : (run : Run) (tick : ℕ) → holds run tick ≡ true → (run .start ≤ tick) × (tick < run .end)
+holds-in run tick e = (
+  leb-true (run .start) tick (and-left (leb (run .start) tick) (ltb tick (run .end)) e),
+  ltb-true tick (run .end) (and-right (leb (run .start) tick) (ltb tick (run .end)) e),
+)
+
+-- a run holds the ticks in it
+pub in-holds : (run : Run) (tick : ℕ) → run .start ≤ tick → tick < run .end → holds run tick ≡ true
+in-holds run tick h l = rw (le-leb (run .start) tick h, lt-ltb tick (run .end) l)
+
+-- a run holds no tick before its start
+pub before-holds : (run : Run) (tick : ℕ) → tick < run .start → holds run tick ≡ false
+before-holds run tick h = rw (lt-leb (run .start) tick h)
+
+-- a run holds no tick from its end on
+pub after-holds : (run : Run) (tick : ℕ) → run .end ≤ tick → holds run tick ≡ false
+after-holds run tick h =
+    cases (leb (run .start) tick) (λ e. rw (e, le-ltb tick (run .end) h)) (λ e. rw e)
+
+-- how many of the ticks below n a run holds
+pub run-count : (run : Run) (n : ℕ) → countBelow (holds run) n ≡ min (run .end) n - run .start
+unfolding countBelow
+run-count run zero = omega arith
+run-count run (suc n) =
+    let h = run-count run n in
+    cases (leb (run .start) n)
+    (λ e.
+    cases (ltb n (run .end))
+    (λ f. rw (e, f) (omega (arith, leb-true (run .start) n e, ltb-true n (run .end) f)))
+    (λ f. rw (e, f) (omega (arith, ltb-false n (run .end) f))))
+    (λ e. rw e (omega (arith, leb-false (run .start) n e)))
+
+-- where no run is empty, the first is not
+pub first-nonempty : (run : Run) (runs : List Run) → noneEmpty (run ∷ runs) ≡ true → run .start < run .end
+unfolding noneEmpty
+first-nonempty run runs e = ltb-true (run .start) (run .end) (and-left (ltb (run .start) (run .end)) (noneEmpty runs) e)
+
+-- and the rest are not
+pub rest-nonempty : (run : Run) (runs : List Run) → noneEmpty (run ∷ runs) ≡ true → noneEmpty runs ≡ true
+unfolding noneEmpty
+rest-nonempty run runs e = and-right (ltb (run .start) (run .end)) (noneEmpty runs) e
+
+-- in order, the first run starts where it may
+pub first-follows : (from : ℕ) (run : Run) (runs : List Run) → followFrom from (run ∷ runs) ≡ true → from ≤ run .start
+unfolding followFrom
+first-follows from run runs e = leb-true from (run .start) (and-left (leb from (run .start)) (followFrom (run .end) runs) e)
+
+-- and the rest follow its end
+pub rest-follow : (from : ℕ) (run : Run) (runs : List Run) → followFrom from (run ∷ runs) ≡ true → followFrom (run .end) runs ≡ true
+unfolding followFrom
+rest-follow from run runs e = and-right (leb from (run .start)) (followFrom (run .end) runs) e
+
+-- in order, every tick that is owned is where the first run may start, or later
+pub owned-from : (from : ℕ) (runs : List Run) → noneEmpty runs ≡ true → followFrom from runs ≡ true
+    → (tick i : ℕ) → ownerOf runs tick ≡ some i → from ≤ tick
+unfolding ownerOf
+owned-from from [] ne fo tick i e = let z : _≡_ {A = ℕ} 0 1 = cc in omega arith
+owned-from from (run ∷ runs) ne fo tick i e =
+    let s = first-nonempty run runs ne in
+    let l = first-follows from run runs fo in
+    cases (holds run tick)
+    (λ h. omega (arith, holds-in run tick h))
+    (λ h.
+    let q : ownerOf runs tick ≡ some i = rw h at e in
+    omega (arith, owned-from (run .end) runs (rest-nonempty run runs ne) (rest-follow from run runs fo) tick i q))
+
+-- a tick is owned or not
+pub owner-cases : {C : Type 0} (o : Option ℕ) → (o ≡ none → C) → ((i : ℕ) → o ≡ some i → C) → C
+owner-cases none f g = f refl
+owner-cases (some i) f g = g i refl
+
+-- in order, no tick before is owned
+pub free-before : (from : ℕ) (runs : List Run) → noneEmpty runs ≡ true → followFrom from runs ≡ true
+    → (tick : ℕ) → tick < from → ownerOf runs tick ≡ none
+free-before from runs ne fo tick l =
+    owner-cases (ownerOf runs tick) (λ e. e) (λ i e. absurd (omega (arith, owned-from from runs ne fo tick i e)))
+
+-- in order, a tick that a run holds is owned by the run's task
+pub owner-is-run : (from : ℕ) (runs : List Run) → noneEmpty runs ≡ true → followFrom from runs ≡ true
+    → (tick i : ℕ) → Any (λ run. (holds run tick ≡ true) × (run .task ≡ i)) runs → ownerOf runs tick ≡ some i
+unfolding ownerOf
+owner-is-run from (run ∷ runs) ne fo tick i (inl h) = rw (h .0, h .1)
+owner-is-run from (run ∷ runs) ne fo tick i (inr h) =
+    let fo₂ = rest-follow from run runs fo in
+    let ne₂ = rest-nonempty run runs ne in
+    let e = owner-is-run (run .end) runs ne₂ fo₂ tick i h in
+    rw (after-holds run tick (owned-from (run .end) runs ne₂ fo₂ tick i e)) e
+
+-- a tick that is owned is held by a run of its owner
+pub owner-has-run : (runs : List Run) (tick i : ℕ) → ownerOf runs tick ≡ some i → Any (λ run. (holds run tick ≡ true) × (run .task ≡ i)) runs
+unfolding ownerOf
+owner-has-run [] tick i e = let z : _≡_ {A = ℕ} 0 1 = cc in omega arith
+owner-has-run (run ∷ runs) tick i e =
+    cases (holds run tick)
+    (λ h. let q : some (run .task) ≡ some i = rw h at e in inl (h, (cc)))
+    (λ h. inr (owner-has-run runs tick i (rw h at e)))
+
+-- in order, the ticks of task i are those of the first run, where it is of task i, and those of the rest
+own-split : (from : ℕ) (run : Run) (runs : List Run) → noneEmpty (run ∷ runs) ≡ true → followFrom from (run ∷ runs) ≡ true → (i tick : ℕ)
+    → one (isTask i (ownerOf (run ∷ runs) tick)) ≡ one (and (eqb (run .task) i) (holds run tick)) + one (isTask i (ownerOf runs tick))
+unfolding ownerOf
+own-split from run runs ne fo i tick =
+    cases (holds run tick)
+    (λ h.
+    let l = holds-in run tick h in
+    let f = free-before (run .end) runs (rest-nonempty run runs ne) (rest-follow from run runs fo) tick (l .1) in
+    cases (eqb (run .task) i) (λ e. rw (h, f, e)) (λ e. rw (h, f, e)))
+    (λ h. cases (eqb (run .task) i) (λ e. rw (h, e) (omega arith)) (λ e. rw (h, e) (omega arith)))
+
+-- how many ticks below n a run holds as one of task i
+part-count : (run : Run) (i n : ℕ)
+    → countBelow (λ tick. and (eqb (run .task) i) (holds run tick)) n ≡ pick (eqb (run .task) i) (min (run .end) n - run .start) 0
+part-count run i n =
+    cases (eqb (run .task) i)
+    (λ e. rw e (run-count run n))
+    (λ e. rw e (count-none (λ tick. false) n (λ tick l. refl)))
+
+-- in order, the ticks of task i below n are those of the first run, where it is of task i, and those of the rest
+own-count : (from : ℕ) (run : Run) (runs : List Run) → noneEmpty (run ∷ runs) ≡ true → followFrom from (run ∷ runs) ≡ true → (i n : ℕ)
+    → countBelow (λ tick. isTask i (ownerOf (run ∷ runs) tick)) n
+    ≡ pick (eqb (run .task) i) (min (run .end) n - run .start) 0 + countBelow (λ tick. isTask i (ownerOf runs tick)) n
+own-count from run runs ne fo i n =
+    rw (← part-count run i n)
+    (count-split (λ tick. isTask i (ownerOf (run ∷ runs) tick)) (λ tick. and (eqb (run .task) i) (holds run tick)) (λ tick. isTask i (ownerOf runs tick))
+    (own-split from run runs ne fo i) n)
+
+-- no run, no ticks
+free-count : (i n : ℕ) → countBelow (λ tick. isTask i (ownerOf [] tick)) n ≡ 0
+unfolding ownerOf
+free-count i n = count-none (λ tick. isTask i (ownerOf [] tick)) n (λ tick l. refl)
+
+-- in order, where every run of task i is from a to b, it has no tick below a, and its total below b
+ends-count : (from : ℕ) (runs : List Run) → noneEmpty runs ≡ true → followFrom from runs ≡ true
+    → (i a b : ℕ) → All (λ run. run .task ≡ i → (a ≤ run .start) × (run .end ≤ b)) runs
+    → (countBelow (λ tick. isTask i (ownerOf runs tick)) a ≡ 0) × (countBelow (λ tick. isTask i (ownerOf runs tick)) b ≡ totalOf runs i)
+unfolding totalOf
+ends-count from [] ne fo i a b h = (free-count i a, free-count i b)
+ends-count from (run ∷ runs) ne fo i a b h =
+    let p = own-count from run runs ne fo i a in
+    let q = own-count from run runs ne fo i b in
+    let r = ends-count (run .end) runs (rest-nonempty run runs ne) (rest-follow from run runs fo) i a b (h .1) in
+    cases (eqb (run .task) i)
+    (λ e. let w = h .0 (eqb-true (run .task) i e) in rw e (omega (arith, rw e at p, rw e at q)))
+    (λ e. rw e (omega (arith, rw e at p, rw e at q)))
+
+-- in order, where every run of task i is from a to b, it has as many ticks there as its runs total
+pub run-ticks : (from : ℕ) (runs : List Run) → noneEmpty runs ≡ true → followFrom from runs ≡ true
+    → (i a b : ℕ) → All (λ run. run .task ≡ i → (a ≤ run .start) × (run .end ≤ b)) runs → ticksOf (ownerOf runs) i a b ≡ totalOf runs i
+run-ticks from runs ne fo i a b h = omega (arith, ends-count from runs ne fo i a b h)
