@@ -2,7 +2,6 @@
 ghost use mathlib.Core.Path.{_≡_};
 ghost use Rattle.schedule.specs.Runs.{Run};
 ghost use Rattle.schedule.specs.BusyCount.{shared, busyReply};
-
 use schedule::Busy;
 
 // The ticks that the run from `start` to `end` shares with the interval from `a` to `b`.

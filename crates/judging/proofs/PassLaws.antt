@@ -77,18 +77,19 @@ blank-length = length-replicate {A = ℕ} maxTasks 0
 
 blank-at : (k : ℕ) → getD blank k 0 ≡ 0
 blank-at k =
-    elim (decLt k maxTasks)
-    [ yes l ↦ getD-replicate {A = ℕ} maxTasks k 0 0 l
-    | no l ↦ List·getD-eq-default blank 0 {n = k} (omega (arith, blank-length)) ]
+    elim (decLt k maxTasks) [
+      | yes l ↦ getD-replicate {A = ℕ} maxTasks k 0 0 l
+      | no l ↦ List·getD-eq-default blank 0 {n = k} (omega (arith, blank-length))
+    ]
 
 pub passed-start : (job : ℕ → Job) (n : ℕ) (at : ℕ → Run) (len : ℕ) → Passed job n at len blank 0 0
 passed-start job n at len =
     record {
-    within = omega arith;
-    left = ap (passes job n 0) (left-start at len);
-    length-is = blank-length;
-    sums = λ k l. omega (arith, blank-at k, ap (λ (runs : List Run). totalOf runs k) (left-start at len));
-    small = λ k. omega (arith, blank-at k)
+      within = omega arith;
+      left = ap (passes job n 0) (left-start at len);
+      length-is = blank-length;
+      sums = λ k l. omega (arith, blank-at k, ap (λ (runs : List Run). totalOf runs k) (left-start at len));
+      small = λ k. omega (arith, blank-at k);
     }
 
 module _ (job : ℕ → Job) (n : ℕ) (at : ℕ → Run) (len : ℕ) (totals : List ℕ) (from i : ℕ) (p : Passed job n at len totals from i) where
@@ -116,30 +117,32 @@ module _ (job : ℕ → Job) (n : ℕ) (at : ℕ → Run) (len : ℕ) (totals : 
       let value : ℕ = getD totals task 0 + (at i .end - at i .start) in
       let there : getD (set totals task value) task 0 ≡ value = getD-set-same totals task value 0 (omega (arith, p .length-is)) in
       record {
-      within = omega arith;
-      left = rw (lt-ltb (at i .task) n h, e) at (next l);
-      length-is = length-set totals task value ∙ p .length-is;
-      sums = λ k b.
-          let before : getD totals k 0 + totalOf (at i ∷ rest) k ≡ totalOf (places at len) k =
-              ap (λ (runs : List Run). getD totals k 0 + totalOf runs k) (sym (left-step at len i l)) ∙ p .sums k b in
-          elim (ℕ-discrete task k)
-          [ yes s ↦
-              let here : getD (set totals task value) k 0 ≡ value = ap (λ (j : ℕ). getD (set totals task value) j 0) (sym s) ∙ there in
-              let total : totalOf (at i ∷ rest) k ≡ (at i .end - at i .start) + totalOf rest k = rw (eq-eqb task k s) in
-              let same : getD totals task 0 ≡ getD totals k 0 = ap (λ (j : ℕ). getD totals j 0) s in
-              omega (arith, here, total, same, before)
-          | no s ↦
-              let other : getD (set totals task value) k 0 ≡ getD totals k 0 = getD-set-other totals task k value 0 (λ q. s (sym q)) in
-              let total : totalOf (at i ∷ rest) k ≡ 0 + totalOf rest k = rw (ne-eqb task k s) in
-              omega (arith, other, total, before) ];
-      small = λ k.
-          elim (ℕ-discrete task k)
-          [ yes s ↦
-              let here : getD (set totals task value) k 0 ≡ value = ap (λ (j : ℕ). getD (set totals task value) j 0) (sym s) ∙ there in
-              omega (arith, here, p .small task)
-          | no s ↦
-              let other : getD (set totals task value) k 0 ≡ getD totals k 0 = getD-set-other totals task k value 0 (λ q. s (sym q)) in
-              omega (arith, other, p .small k) ]
+        within = omega arith;
+        left = rw (lt-ltb (at i .task) n h, e) at (next l);
+        length-is = length-set totals task value ∙ p .length-is;
+        sums = λ k b.
+            let before : getD totals k 0 + totalOf (at i ∷ rest) k ≡ totalOf (places at len) k =
+            ap (λ (runs : List Run). getD totals k 0 + totalOf runs k) (sym (left-step at len i l)) ∙ p .sums k b in
+            elim (ℕ-discrete task k) [
+              | yes s ↦
+                  let here : getD (set totals task value) k 0 ≡ value = ap (λ (j : ℕ). getD (set totals task value) j 0) (sym s) ∙ there in
+                  let total : totalOf (at i ∷ rest) k ≡ (at i .end - at i .start) + totalOf rest k = rw (eq-eqb task k s) in
+                  let same : getD totals task 0 ≡ getD totals k 0 = ap (λ (j : ℕ). getD totals j 0) s in
+                  omega (arith, here, total, same, before)
+              | no s ↦
+                  let other : getD (set totals task value) k 0 ≡ getD totals k 0 = getD-set-other totals task k value 0 (λ q. s (sym q)) in
+                  let total : totalOf (at i ∷ rest) k ≡ 0 + totalOf rest k = rw (ne-eqb task k s) in
+                  omega (arith, other, total, before)
+            ];
+        small = λ k.
+            elim (ℕ-discrete task k) [
+              | yes s ↦
+                  let here : getD (set totals task value) k 0 ≡ value = ap (λ (j : ℕ). getD (set totals task value) j 0) (sym s) ∙ there in
+                  omega (arith, here, p .small task)
+              | no s ↦
+                  let other : getD (set totals task value) k 0 ≡ getD totals k 0 = getD-set-other totals task k value 0 (λ q. s (sym q)) in
+                  omega (arith, other, p .small k)
+            ];
       }
 
   -- no run is left: all passed, and the totals are those of all runs

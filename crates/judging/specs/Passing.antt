@@ -6,7 +6,7 @@ use lib.Dec.{leb, ltb}
 use Rattle.base.specs.Tests.{and}
 use Rattle.schedule.specs.declared.Job.{Job}
 use Rattle.schedule.specs.Runs.{Run}
-use Rattle.schedule.specs.Judging.{noneEmpty, followFrom, knownTasks, inWindows}
+use Rattle.schedule.specs.Judging.{noneEmpty, followFrom, knownTasks, inWindows, exactTotals}
 
 -- of runs of which the first starts at tick `from` or later
 unfoldable pub passes : (ℕ → Job) → ℕ → ℕ → List Run → Bool
@@ -15,3 +15,7 @@ passes job n from runs = and (noneEmpty runs) (and (followFrom from runs) (and (
 -- of one run, whose task is known
 unfoldable pub runFits : Job → ℕ → ℕ → ℕ → Bool
 runFits job from start end = and (ltb start end) (and (leb from start) (and (leb (job .release) start) (leb end (job .deadline))))
+
+-- all five conditions of a yes
+unfoldable pub fair : (ℕ → Job) → ℕ → List ℕ → List Run → Bool
+fair job n marks runs = and (passes job n 0 runs) (exactTotals job marks n runs)

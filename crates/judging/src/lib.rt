@@ -1,6 +1,7 @@
 // Judging a keep list and a run list (an entry point): one pass over the runs and one over the tasks, in a fixed amount of memory.
 ghost use mathlib.Core.Path.{_≡_};
 ghost use mathlib.Core.Bool.{true, not};
+ghost use mathlib.Core.Logic.{_↔_};
 ghost use Prim.Native.Nat.{ℕ, _≤_, _<_};
 ghost use lib.Dec.{eqb};
 ghost use lib.ListN.{length, getD};
@@ -11,9 +12,8 @@ ghost use Rattle.table.specs.Writing.{Legal};
 ghost use Rattle.schedule.specs.Jobs.{noJob, workOf, counts};
 ghost use Rattle.schedule.specs.Ticks.{countBelow};
 ghost use Rattle.schedule.specs.Runs.{runsOf};
-ghost use Rattle.schedule.specs.Judging.{totalOf, exactTotals, firstBadMark, judgeDeclined, judgeSays, judgeTable, judged};
-ghost use Rattle.judging.specs.Passing.{passes, runFits};
-
+ghost use Rattle.schedule.specs.Judging.{totalOf, firstBadMark, judgeDeclined, judgeTable, judged, Fair};
+ghost use Rattle.judging.specs.Passing.{passes, runFits, fair};
 use base::MAX_TASKS;
 use schedule::Job;
 use schedule::Judged;
@@ -36,6 +36,19 @@ fn declined(number: u32, place: usize) -> Judged
         yes: false,
         kept: 0,
         discarded: 0,
+    }
+}
+
+// The reply of a verdict, with its counts.
+fn says(fair: bool, kept: u32, discarded: u32) -> Judged
+    ensures { λ r. ⌜ r ≡ record { number = 0; place = 0; yes = fair; kept = kept; discarded = discarded } ⌝ }
+{
+    Judged {
+        number: 0,
+        place: 0,
+        yes: fair,
+        kept,
+        discarded,
     }
 }
 
@@ -70,7 +83,13 @@ fn run_fits(job: Job, from: u32, start: u32, end: u32) -> bool
 }
 
 // The pass over the runs: each follows the one before, is not empty, has a known task and is inside its window.
-fn pass_runs(jobs: [Job; MAX_TASKS], count: u32, starts: &[u32], ends: &[u32], tasks: &[u32]) -> Pass
+fn pass_runs(
+    jobs: [Job; MAX_TASKS],
+    count: u32,
+    starts: &[u32],
+    ends: &[u32],
+    tasks: &[u32],
+) -> Pass
     requires { ⌜ count ≤ maxTasks ⌝ }
     requires { ⌜ length (now starts) ≤ maxRuns ⌝ }
     requires { ⌜ length (now starts) ≡ length (now ends) ⌝ }
@@ -83,14 +102,20 @@ fn pass_runs(jobs: [Job; MAX_TASKS], count: u32, starts: &[u32], ends: &[u32], t
     while i < starts.len() {
         let task = tasks[i];
         if count <= task {
-            return Pass { fits: false, totals };
+            return Pass {
+                fits: false,
+                totals,
+            };
         }
         let k = task as usize;
         let job = jobs[k];
         let start = starts[i];
         let end = ends[i];
         if !run_fits(job, from, start, end) {
-            return Pass { fits: false, totals };
+            return Pass {
+                fits: false,
+                totals,
+            };
         }
         totals[k] = totals[k] + (end - start) as u64;
         from = end;
@@ -144,4 +169,67 @@ fn count_marked(jobs: [Job; MAX_TASKS], count: u32, marks: &[u8], mark: u8) -> u
         k += 1;
     }
     marked
+}
+
+// All five conditions of a yes.
+fn is_fair(
+    jobs: [Job; MAX_TASKS],
+    count: u32,
+    marks: &[u8],
+    starts: &[u32],
+    ends: &[u32],
+    tasks: &[u32],
+) -> bool
+    requires { ⌜ count ≤ maxTasks ⌝ }
+    requires { ⌜ length (now marks) ≡ count ⌝ }
+    requires { ⌜ length (now starts) ≤ maxRuns ⌝ }
+    requires { ⌜ (length (now starts) ≡ length (now ends)) × (length (now starts) ≡ length (now tasks)) ⌝ }
+    ensures { λ r. ⌜ r ≡ fair (λ k. getD jobs k noJob) count (now (marks .entry)) (runsOf (now (starts .entry)) (now (ends .entry)) (now (tasks .entry))) ⌝ }
+{
+    let pass = pass_runs(jobs, count, starts, ends, tasks);
+    let fits = pass.fits;
+    if !fits {
+        return false;
+    }
+    let totals = pass.totals;
+    totals_exact(jobs, count, marks, totals)
+}
+
+// Judging on the table of an accepted file: 11, the length first, then 13, then the verdict.
+fn judge_table(table: Table, marks: &[u8], starts: &[u32], ends: &[u32], tasks: &[u32]) -> Judged
+    requires { ⌜ Legal table ⌝ }
+    ensures { λ r. ⌜ r ≡ judgeTable table (now (marks .entry)) (now (starts .entry)) (now (ends .entry)) (now (tasks .entry)) ⌝ }
+{
+    let count = table.count as usize;
+    if marks.len() != count {
+        return declined(11, count);
+    }
+    let bad = first_bad_mark(marks);
+    if bad < count {
+        return declined(11, bad);
+    }
+    if schedule::bad_columns(starts, ends, tasks) {
+        return declined(13, 0);
+    }
+    let jobs = schedule::jobs_of(table);
+    if is_fair(jobs, table.count, marks, starts, ends, tasks) {
+        let kept = count_marked(jobs, table.count, marks, 1);
+        let discarded = count_marked(jobs, table.count, marks, 0);
+        return says(true, kept, discarded);
+    }
+    says(false, 0, 0)
+}
+
+// Judging: any bytes, marks and columns get the reply of document 01.
+pub fn judge(file: &[u8], marks: &[u8], starts: &[u32], ends: &[u32], tasks: &[u32]) -> Judged
+    ensures reply { λ r. ⌜ r ≡ judged (now (file .entry)) (now (marks .entry)) (now (starts .entry)) (now (ends .entry)) (now (tasks .entry)) ⌝ }
+    ensures sound { λ r. ⌜ (r .number ≡ 0 → (r .yes ≡ true) ↔ Fair (now (file .entry)) (now (marks .entry)) (runsOf (now (starts .entry)) (now (ends .entry)) (now (tasks .entry)))) ⌝ }
+{
+    let read = reading::read(file);
+    let answer = read.answer;
+    let Answer::Accepted = answer else {
+        return declined(answer.number(), answer.place());
+    };
+    let table = read.table;
+    judge_table(table, marks, starts, ends, tasks)
 }

@@ -12,13 +12,12 @@ use Rattle.base.specs.Limits.{maxTasks}
 use Rattle.base.proofs.LowestLaws.{before, within}
 use Rattle.table.specs.declared.Task.{Task}
 use Rattle.table.specs.declared.Table.{Table}
-use Rattle.table.specs.declared.Reading.{Reading}
 use Rattle.table.specs.declared.Written.{Written}
 use Rattle.table.specs.declared.Answer.the-variants.{Accepted}
 use Rattle.table.specs.Tables.{noTask, taskAt, tableOf}
 use Rattle.table.specs.Layout.{fileLength}
 use Rattle.table.specs.Answers.{numberOf, placeOf, isAccepted, declined, wrote}
-use Rattle.table.specs.Reading.{tableIn, readAnswer, reading}
+use Rattle.table.specs.Reading.{tableIn, readAnswer}
 use Rattle.table.specs.Writing.{fileOf, contentAfter}
 use Rattle.table.specs.Moving.{movedTask, movedOutside, firstOutside, movedTable, moveReply, movedOver}
 use Rattle.base.proofs.Filling.{Filled}
@@ -61,15 +60,6 @@ module _ (s : List ℕ) (shift : ℤ) (room : ℕ) where
       pub nothing-refused : length s ≤ room → wrote (length s) ≡ moveReply s shift room
       unfolding moveReply
       nothing-refused l = rw (accepted, le-ltb (firstOutside shift (tableIn s)) (tableIn s .count) inside, le-ltb room (length s) l)
-
--- what reading replies, where its answer is known
-pub read-answer : (s : List ℕ) (r : Reading) → r ≡ reading s → r .answer ≡ readAnswer s
-unfolding reading
-read-answer s r e = ap (λ (r : Reading). r .answer) e
-
-pub read-is : (s : List ℕ) (r : Reading) → r ≡ reading s → readAnswer s ≡ Accepted → r .table ≡ tableIn s
-unfolding reading
-read-is s r e a = ap (λ (r : Reading). r .table) e ∙ rw a
 
 -- the search for a task outside ends at the count at the latest
 pub inside-all : (shift : ℤ) (t : Table) → t .count ≤ firstOutside shift t → firstOutside shift t ≡ t .count

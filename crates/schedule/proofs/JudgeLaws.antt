@@ -3,12 +3,12 @@ use Prim.Native.Nat.{ℕ, zero, suc, _+_, _-_, _≤_, _<_}
 use mathlib.Core.Path.{_≡_, refl, sym, ap, _∙_}
 use mathlib.Core.Logic.{_↔_, inl, inr}
 use mathlib.Core.List.{List, [], _∷_}
-use mathlib.Core.Bool.{Bool, true, not}
+use mathlib.Core.Bool.{Bool, true, false, not}
 use mathlib.Core.Option.{some}
 use native.Mathlib.Omega.{arith}
 use native.Mathlib.Decide.{decLe}
 use lib.Dec.{leb, ltb, eqb}
-use lib.ListN.{getD}
+use lib.ListN.{length, getD}
 use borrow.Author.Tests.{leb-true, ltb-true, eqb-true, eqb-false, le-leb, lt-ltb, eq-eqb, ne-eqb, not-true, not-false}
 use Rattle.base.specs.Tests.{and}
 use Rattle.base.specs.Lowest.{someBelow}
@@ -16,12 +16,16 @@ use Rattle.base.specs.Places.{placesFrom, places}
 use Rattle.base.proofs.TestLaws.{cases, and-true, and-left, and-right}
 use Rattle.base.proofs.LowestLaws.{no-some, none-some}
 use Rattle.table.specs.declared.Table.{Table}
+use Rattle.table.specs.declared.Answer.{Answer}
+use Rattle.table.specs.Answers.{numberOf, isAccepted}
+use Rattle.table.specs.Reading.{tableIn, readAnswer}
+use Rattle.table.proofs.AnswerLaws.{refused-number}
 use Rattle.schedule.specs.declared.Job.{Job}
 use Rattle.schedule.specs.Jobs.{jobOf, jobAt, jobsOf, workOf, counts}
 use Rattle.schedule.specs.Ticks.{Owner, one, countBelow}
 use Rattle.schedule.specs.Runnings.{All, Any, Holds, got, Gets, discards}
-use Rattle.schedule.specs.Runs.{Run, holds, ownerOf, Together}
-use Rattle.schedule.specs.Judging.{noneEmpty, inOrder, knownTasks, inWindows, totalOf, exactTotals, verdict, discardedCount}
+use Rattle.schedule.specs.Runs.{Run, holds, ownerOf, Together, badColumns, runsOf}
+use Rattle.schedule.specs.Judging.{noneEmpty, inOrder, knownTasks, inWindows, totalOf, exactTotals, verdict, discardedCount, firstBadMark, judgeTable, judged, Fair}
 use Rattle.schedule.proofs.RunLaws.{in-holds, holds-in, first-nonempty, rest-nonempty, owner-is-run, owner-has-run, run-ticks}
 
 -- Members of lists.
@@ -341,3 +345,35 @@ unfolding jobsOf discardedCount
 together-discards t marks runs low g =
     discards-places (jobAt t) (ownerOf runs) (λ k. and (counts (jobAt t k)) (eqb (getD marks k 0) 0)) (t .count)
     (λ k l. discarded-mark (ownerOf runs) (jobAt t k) (getD marks k 0) (low k l) (together-work t marks runs g k l))
+
+-- Where the judge refuses nothing, it says yes exactly when the runs follow one another in time, none is empty, and list and runs together are
+-- a running.
+table-sound : (t : Table) (marks starts ends tasks : List ℕ) → judgeTable t marks starts ends tasks .number ≡ 0
+    → judgeTable t marks starts ends tasks .yes ≡ verdict t marks (runsOf starts ends tasks)
+unfolding judgeTable
+table-sound t marks starts ends tasks =
+    cases (not (eqb (length marks) (t .count)))
+    (λ e. rw e (λ z. absurd (omega arith)))
+    (λ e.
+    rw e
+    (cases (ltb (firstBadMark marks (t .count)) (t .count))
+    (λ f. rw f (λ z. absurd (omega arith)))
+    (λ f. rw f (cases (badColumns starts ends tasks) (λ g. rw g (λ z. absurd (omega arith))) (λ g. rw g (λ z. refl))))))
+
+refused-nonzero : (a : Answer) → isAccepted a ≡ false → numberOf a ≡ 0 → ⊥
+refused-nonzero a e z = eqb-false (numberOf a) 0 (refused-number a e) z
+
+pub judge-sound : (file marks starts ends tasks : List ℕ) → judged file marks starts ends tasks .number ≡ 0
+    → (judged file marks starts ends tasks .yes ≡ true) ↔ Fair file marks (runsOf starts ends tasks)
+unfolding judged
+judge-sound file marks starts ends tasks =
+    cases (isAccepted (readAnswer file))
+    (λ e.
+    rw e
+    (λ z.
+    let same = table-sound (tableIn file) marks starts ends tasks z in
+    let law = judge-verdict (tableIn file) marks (runsOf starts ends tasks) in (
+      λ y. let f = law .0 (sym same ∙ y) in record { follow = f .1; nonempty = f .0; together = f .2 },
+      λ f. same ∙ law .1 (f .nonempty, f .follow, f .together),
+    )))
+    (λ e. rw e (λ z. absurd (refused-nonzero (readAnswer file) e z)))

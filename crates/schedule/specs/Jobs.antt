@@ -19,11 +19,11 @@ noJob = record { position = 0; release = 0; deadline = 0; mandatory = 0; optiona
 unfoldable pub jobOf : ℕ → ℕ → ℕ → Task → Job
 jobOf p q position task =
     record {
-    position = position;
-    release = releaseTick p q (task .release);
-    deadline = deadlineTick p q (task .deadline);
-    mandatory = task .mandatory;
-    optional = task .optional
+      position = position;
+      release = releaseTick p q (task .release);
+      deadline = deadlineTick p q (task .deadline);
+      mandatory = task .mandatory;
+      optional = task .optional;
     }
 
 -- the job at a position of a table

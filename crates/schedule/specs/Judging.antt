@@ -1,5 +1,6 @@
 -- Judging a keep list and a run list, whoever made them.
 use Prim.Native.Nat.{ℕ, _+_, _-_}
+use mathlib.Core.Path.{_≡_}
 use mathlib.Core.List.{List, [], _∷_}
 use mathlib.Core.Bool.{Bool, true, false, not}
 use lib.Dec.{leb, ltb, eqb}
@@ -11,9 +12,9 @@ use Rattle.table.specs.Answers.{numberOf, placeOf, isAccepted}
 use Rattle.table.specs.Reading.{tableIn, readAnswer}
 use Rattle.schedule.specs.declared.Job.{Job}
 use Rattle.schedule.specs.declared.Judged.{Judged}
-use Rattle.schedule.specs.Jobs.{jobAt, workOf, counts}
+use Rattle.schedule.specs.Jobs.{jobAt, jobsOf, workOf, counts}
 use Rattle.schedule.specs.Ticks.{countBelow}
-use Rattle.schedule.specs.Runs.{Run, badColumns, runsOf}
+use Rattle.schedule.specs.Runs.{Run, Together, badColumns, runsOf}
 
 -- The five conditions of a yes, for the jobs of n positions.
 
@@ -88,3 +89,9 @@ unfoldable pub judged : List ℕ → List ℕ → List ℕ → List ℕ → List
 judged file marks starts ends tasks =
     pick (isAccepted (readAnswer file)) (judgeTable (tableIn file) marks starts ends tasks)
     (judgeDeclined (numberOf (readAnswer file)) (placeOf (readAnswer file)))
+
+-- what demand 2 asks of a yes: the runs follow one another in time, none is empty, and list and runs together are a running of the table
+pub record Fair (file marks : List ℕ) (runs : List Run) : Type 0 where
+  pub follow : inOrder runs ≡ true
+  pub nonempty : noneEmpty runs ≡ true
+  pub together : Together (jobsOf (tableIn file)) marks runs

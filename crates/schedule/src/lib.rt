@@ -10,7 +10,6 @@ ghost use Rattle.table.specs.Tables.{taskAt};
 ghost use Rattle.clock.specs.Clock.{LegalPeriod};
 ghost use Rattle.schedule.specs.Jobs.{noJob, jobOf, jobAt};
 ghost use Rattle.schedule.specs.Runs.{badColumns};
-
 use base::MAX_RUNS;
 use base::MAX_TASKS;
 use table::Table;

@@ -207,7 +207,6 @@ narrow-test task n =
     (or-false (leb (2 ^ ticksWidth) (task .mandatory)) (leb (2 ^ ticksWidth) (task .optional)) (lt-leb (2 ^ ticksWidth) (task .mandatory) (n .mandatory))
     (lt-leb (2 ^ ticksWidth) (task .optional) (n .optional))))
 
-
 -- The count of such a table.
 pub legal-count : {t : Table} → Legal t → (0 < t .count) × (t .count ≤ maxTasks)
 legal-count {t} l = count-known (t .count) (l .counted)

@@ -18,6 +18,7 @@ use Rattle.bits.specs.Bits.{Bytes, bitAt, bitIn, bitsOf, bytesFor, field, pack}
 use Rattle.bits.proofs.BitsLaws.{number-ext, number-bits, bitAt-le, field-lt, bitsOf-length, bitsOf-number, bitIn-left, bitIn-right, bitIn-end, pack-bit, pack-same, field-zero, zero-field}
 use Rattle.table.specs.declared.Task.{Task}
 use Rattle.table.specs.declared.Table.{Table}
+use Rattle.table.specs.declared.Reading.{Reading}
 use Rattle.table.specs.declared.Answer.{Answer}
 use Rattle.table.specs.declared.Answer.the-variants.{Accepted, Short, Count, Long, Padding, Period, Window, Nesting}
 use Rattle.table.specs.Tables.{taskAt, tableOf, Same}
@@ -232,6 +233,15 @@ read-head s e = head-known s (read-known s e .0)
 pub read-table : (s : List ℕ) → readAnswer s ≡ Accepted → reading s ≡ record { answer = Accepted; table = tableIn s }
 unfolding reading
 read-table s e = rw e
+
+-- The parts of a reply of reading.
+pub read-answer : (s : List ℕ) (r : Reading) → r ≡ reading s → r .answer ≡ readAnswer s
+unfolding reading
+read-answer s r e = ap (λ (r : Reading). r .answer) e
+
+pub read-is : (s : List ℕ) (r : Reading) → r ≡ reading s → readAnswer s ≡ Accepted → r .table ≡ tableIn s
+unfolding reading
+read-is s r e a = ap (λ (r : Reading). r .table) e ∙ rw a
 
 -- The rest of the last byte of a table's file is zero.
 pub written-padding : (t : Table) → field (fileOf t) (taskStart (t .count)) (8 * fileLength (t .count) - taskStart (t .count)) ≡ 0

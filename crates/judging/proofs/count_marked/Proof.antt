@@ -55,13 +55,17 @@ loop-again : tie.Need-loop-again Inv-loop μ-loop
 loop-again c =
     let before = c .before .before .before .before .loop .inv in
     ⊎-elim
-    (λ w.
-    (omega arith, omega (arith, w .3),
-    w .3 ∙ (ap (λ (m : ℕ). m + 1) (before .2) ∙ sym (count-passed _ _ (ap₂ and (lt-ltb _ _ (w .0 .taken)) (eq-eqb _ _ (w .2 .taken)))))))
+    (λ w. (
+      omega arith,
+      omega (arith, w .3),
+      w .3 ∙ (ap (λ (m : ℕ). m + 1) (before .2) ∙ sym (count-passed _ _ (ap₂ and (lt-ltb _ _ (w .0 .taken)) (eq-eqb _ _ (w .2 .taken))))),
+    ))
     (⊎-elim
-    (λ w.
-    (omega arith, omega (arith, w .3),
-    w .3 ∙ (before .2 ∙ sym (count-failed _ _ (ap₂ and (lt-ltb _ _ (w .0 .taken)) (ne-eqb _ _ (w .2 .left)))))))
+    (λ w. (
+      omega arith,
+      omega (arith, w .3),
+      w .3 ∙ (before .2 ∙ sym (count-failed _ _ (ap₂ and (lt-ltb _ _ (w .0 .taken)) (ne-eqb _ _ (w .2 .left))))),
+    ))
     (λ w.
     (omega arith, omega (arith, w .1), w .1 ∙ (before .2 ∙ sym (count-failed _ _ (not-counted (c .before .before .before .before .before .args .t1) (c .before .before .before .before .before .args .marks .now) (c .before .before .before .before .before .args .mark) (c .before .before .before .before .loop .k) (w .0 .left)))))))
     (c .if1 .came)

@@ -82,9 +82,10 @@ run-fits-requires c κs = search needs
 
 returns-2 : tie.Need-returns-2 Inv-loop μ-loop
 unfolding runAt runsOf
-returns-2 c =
-    (passed-run _ _ _ _ _ _ _ (c .before .before .before .before .before .before .before .before .loop .inv) (omega arith) (c .before .before .before .before .before .if1 .left) (sym (c .before .run-fits .ensures) ∙ not-true _ (c .if2 .taken)),
-    λ e k l. both-absurd false e refl)
+returns-2 c = (
+  passed-run _ _ _ _ _ _ _ (c .before .before .before .before .before .before .before .before .loop .inv) (omega arith) (c .before .before .before .before .before .if1 .left) (sym (c .before .run-fits .ensures) ∙ not-true _ (c .if2 .taken)),
+  λ e k l. both-absurd false e refl,
+)
 
 mul-totals : tie.Need-mul-totals Inv-loop μ-loop
 mul-totals c = omega arith
@@ -120,9 +121,10 @@ loop-again c =
 
 returns-3 : tie.Need-returns-3 Inv-loop μ-loop
 unfolding runsOf
-returns-3 c =
-    (passed-all _ _ _ _ _ _ _ (c .before .loop .inv) (omega arith),
-    λ e. passed-totals _ _ _ _ _ _ _ (c .before .loop .inv) (omega arith))
+returns-3 c = (
+  passed-all _ _ _ _ _ _ _ (c .before .loop .inv) (omega arith),
+  λ e. passed-totals _ _ _ _ _ _ _ (c .before .loop .inv) (omega arith),
+)
 
 pub pass-runs-spec : {M : Type 1} → statement M
 pass-runs-spec =

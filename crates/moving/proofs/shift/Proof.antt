@@ -15,9 +15,9 @@ use Rattle.table.specs.Reading.{countIn, tableIn, readAnswer}
 use Rattle.table.specs.Moving.{firstOutside, movedTable}
 use Rattle.table.proofs.AnswerLaws.{told-refused, refused-number}
 use Rattle.table.proofs.FileLaws.{legal-count}
-use Rattle.table.proofs.RoundTrip.{read-legal, read-length, tableIn-count, moved-header}
+use Rattle.table.proofs.RoundTrip.{read-legal, read-answer, read-is, read-length, tableIn-count, moved-header}
 use Rattle.moving.proofs.ShiftLaws.{as-passed}
-use Rattle.moving.proofs.MoveLaws.{refused-keeps, read-refused, frame-refused, room-refused, nothing-refused, read-answer, read-is, inside-all, accepted-leaves}
+use Rattle.moving.proofs.MoveLaws.{refused-keeps, read-refused, frame-refused, room-refused, nothing-refused, inside-all, accepted-leaves}
 use Rattle.moving.proofs.shift.Statement.{statement}
 use Rattle.moving.proofs.shift.Tie as tie
 
