@@ -7,7 +7,7 @@ use native.Mathlib.Nat.{zero-add, not-suc-le-zero}
 use native.Mathlib.Decide.{decLe, decLt}
 use native.Mathlib.Omega.{arith}
 use lib.Dec.{ltb, leb, eqb}
-use lib.ListN.{length, length-append}
+use lib.ListN.{length, drop, length-append}
 use lib.IntN.{ℤ, pos, negsuc}
 use borrow.Author.Tests.{ltb-false, eqb-true, not-false, le-ltb, le-leb, lt-leb}
 use Rattle.base.specs.Limits.{maxTasks, maxPeriod, lastFrame}
@@ -26,7 +26,7 @@ use Rattle.table.specs.Layout.{countWidth, periodWidth, frameWidth, tick
 use Rattle.table.specs.Answers.{numberOf, placeOf, isAccepted, declined, wrote}
 use Rattle.table.specs.Windows.{reversed, contains, nested, windowAnswer}
 use Rattle.table.specs.Reading.{countIn, pIn, qIn, taskFrom, taskIn, tableIn, paddingSet, headAnswer, readAnswer, reading}
-use Rattle.table.specs.Writing.{Legal, taskBits, tasksBits, headerBits, tableBits, fileOf, tooWide, writeReply}
+use Rattle.table.specs.Writing.{Legal, taskBits, tasksBits, headerBits, tableBits, fileOf, tooWide, writeReply, contentAfter, writtenOver}
 use Rattle.table.specs.Moving.{movedFrame, outside, frameOf, movedTask, movedOutside, firstOutside, movedTable, moveReply}
 use Rattle.table.proofs.FileLaws.{
   taskBits-length,
@@ -391,6 +391,11 @@ pub read-writes : (s : List ℕ) (room : ℕ) → readAnswer s ≡ Accepted → 
 read-writes s room e h =
     let n : fileLength (tableIn s .count) ≡ length s = rw (tableIn-count s) (sym (read-length s e)) in
     legal-accepted (read-legal s e) room (omega arith) ∙ ap wrote n
+
+-- A file read and written again, into a list with room, is the same file, byte for byte; beyond it the list keeps its content.
+pub read-over : (s out : List ℕ) → Bytes s → readAnswer s ≡ Accepted → length s ≤ length out → writtenOver (tableIn s) out ≡ s ++ drop (length s) out
+unfolding writtenOver contentAfter
+read-over s out b e l = rw (read-writes s (length out) e l, read-again s b e)
 
 -- How far a shift moves up.
 up : ℤ → ℕ
