@@ -1,0 +1,263 @@
+-- Laws of the choice: the chosen list is the one that the rules take, the rows give it, and it marks optional parts of 0 ticks as kept.
+use Prim.Native.Nat.{ℕ, zero, suc, _≤_, _<_}
+use mathlib.Core.Path.{_≡_, refl, sym, ap}
+use mathlib.Core.Logic.{_⊎_, inl, inr}
+use mathlib.Core.List.{List, [], _∷_, _++_, map, List·Memᴰ, List·Memᴰ·head, List·Memᴰ·tail, Memᴰ·append-left, Memᴰ·append-right, Memᴰ·map}
+use mathlib.Core.Bool.{Bool, true, false}
+use native.Mathlib.Omega.{arith}
+use lib.ListN.{length, getD}
+use borrow.Author.Tests.{ltb-true}
+use Rattle.base.specs.Tests.{and}
+use Rattle.base.proofs.TestLaws.{both-absurd, and-left, and-right}
+use Rattle.schedule.specs.declared.Job.{Job}
+use Rattle.schedule.specs.Jobs.{noJob, counts}
+use Rattle.choice.specs.Choice.{fits, keepLists, keepNone, keptTicks, discardMarks, lexLess, discardedWorth, keptWorth}
+use Rattle.choice.specs.Choice.{key, better, best, chosenBy, KeepsFirst, Taken, counted, chosen, ZeroKept}
+use Rattle.choice.specs.Rows.{outermostTicks, allWorth, row, backtrack, bestWorth, byRows}
+use Rattle.choice.proofs.PickLaws.{pick-cases, and-not-second}
+use Rattle.choice.proofs.OrderLaws.{LexAtMost, atMost-refl, atMost-trans, less→atMost, notLess→atMost}
+use Rattle.choice.proofs.FitLaws.{fits-tail, fits-length, none-fits, ticks-outermost, worth-split}
+use Rattle.choice.proofs.RowLaws.{Keeps, row-least, backtrack-keeps, backtrack-first, greatest-is, backtrack-zero}
+
+-- The tie rule.
+
+-- marks that are at most one another are the same
+marks-same : (a b : List Bool) → LexAtMost (discardMarks a) (discardMarks b) → LexAtMost (discardMarks b) (discardMarks a) → a ≡ b
+unfolding LexAtMost
+marks-same [] [] p q = refl
+marks-same [] (y ∷ b) p q = absurd q
+marks-same (x ∷ a) [] p q = absurd p
+marks-same (true ∷ a) (true ∷ b) p q = ap (λ l. true ∷ l) (marks-same a b (p .1 refl) (q .1 refl))
+marks-same (true ∷ a) (false ∷ b) p q = absurd (omega arith)
+marks-same (false ∷ a) (true ∷ b) p q = absurd (omega arith)
+marks-same (false ∷ a) (false ∷ b) p q = ap (λ l. false ∷ l) (marks-same a b (p .1 refl) (q .1 refl))
+
+-- of two lists with the same marks up to a job, the one that keeps there has the lesser marks
+split-atMost : (same restA restB : List Bool) → LexAtMost (discardMarks (same ++ true ∷ restA)) (discardMarks (same ++ false ∷ restB))
+unfolding LexAtMost
+split-atMost [] restA restB = (omega arith, λ e. absurd (omega arith))
+split-atMost (true ∷ same) restA restB = (omega arith, λ e. split-atMost same restA restB)
+split-atMost (false ∷ same) restA restB = (omega arith, λ e. split-atMost same restA restB)
+
+-- so has a list that keeps at the outermost job where two differ
+first-atMost : (a b : List Bool) → KeepsFirst a b → LexAtMost (discardMarks a) (discardMarks b)
+first-atMost a b f = rw (f .keeps, f .discards) (split-atMost (f .same) (f .restA) (f .restB))
+
+-- or is the same
+marks-least : (a b : List Bool) → (b ≡ a) ⊎ KeepsFirst a b → LexAtMost (discardMarks a) (discardMarks b)
+marks-least a b (inl e) = rw e (atMost-refl (discardMarks a))
+marks-least a b (inr f) = first-atMost a b f
+
+-- one mark more, the same in both lists
+first-cons : (x : Bool) (a b : List Bool) → (b ≡ a) ⊎ KeepsFirst a b → (x ∷ b ≡ x ∷ a) ⊎ KeepsFirst (x ∷ a) (x ∷ b)
+first-cons x a b (inl e) = inl (ap (λ l. x ∷ l) e)
+first-cons x a b (inr f) =
+    inr (record {
+      same = x ∷ f .same;
+      restA = f .restA;
+      restB = f .restB;
+      keeps = ap (λ l. x ∷ l) (f .keeps);
+      discards = ap (λ l. x ∷ l) (f .discards);
+    })
+
+-- of lists of one length, the one with the lesser marks keeps at the outermost job where they differ
+atMost-first : (a b : List Bool) → length a ≡ length b → LexAtMost (discardMarks a) (discardMarks b) → (b ≡ a) ⊎ KeepsFirst a b
+unfolding LexAtMost
+atMost-first [] [] n p = inl refl
+atMost-first [] (y ∷ b) n p = absurd (omega arith)
+atMost-first (x ∷ a) [] n p = absurd p
+atMost-first (true ∷ a) (true ∷ b) n p = first-cons true a b (atMost-first a b (omega arith) (p .1 refl))
+atMost-first (true ∷ a) (false ∷ b) n p = inr (record { same = []; restA = a; restB = b; keeps = refl; discards = refl })
+atMost-first (false ∷ a) (true ∷ b) n p = absurd (omega arith)
+atMost-first (false ∷ a) (false ∷ b) n p = first-cons false a b (atMost-first a b (omega arith) (p .1 refl))
+
+-- every list that fits is among the keep lists
+among : (jobs : List Job) (keeps : List Bool) → fits jobs keeps ≡ true → List·Memᴰ keeps (keepLists jobs)
+unfolding fits keepLists
+among [] [] e = List·Memᴰ·head refl
+among [] (keep ∷ keeps) e = both-absurd false e refl
+among (job ∷ jobs) [] e = both-absurd false e refl
+among (job ∷ jobs) (true ∷ keeps) e = Memᴰ·append-left _ (Memᴰ·map (λ l. true ∷ l) (among jobs keeps (fits-tail job jobs true keeps e)))
+among (job ∷ jobs) (false ∷ keeps) e =
+    Memᴰ·append-right (map (λ l. true ∷ l) (keepLists jobs)) (Memᴰ·map (λ l. false ∷ l) (among jobs keeps (fits-tail job jobs false keeps e)))
+
+module _ (worth : Job → ℕ) where
+  -- a list that fits, and whose key is at most that of every list that fits
+  pub record Best (jobs : List Job) (keeps : List Bool) : Type 0 where
+    pub fit : fits jobs keeps ≡ true
+    pub least : (other : List Bool) → fits jobs other ≡ true → LexAtMost (key worth jobs keeps) (key worth jobs other)
+
+  -- there is one such list at most
+  pub best-unique : (jobs : List Job) (a b : List Bool) → Best jobs a → Best jobs b → a ≡ b
+  unfolding LexAtMost key
+  best-unique jobs a b p q =
+      let l = p .least b (q .fit) in
+      let m = q .least a (p .fit) in
+      let d : discardedWorth worth jobs a ≡ discardedWorth worth jobs b = omega arith in
+      let t : keptTicks jobs a ≡ keptTicks jobs b = omega (arith, l .1 d, m .1 (sym d)) in
+      marks-same a b (l .1 d .1 t) (m .1 (sym d) .1 (sym t))
+
+  -- it is the list that the rules take
+  pub best-taken : (jobs : List Job) (keeps : List Bool) → Best jobs keeps → Taken worth jobs keeps
+  unfolding LexAtMost key
+  best-taken jobs keeps b =
+      record {
+        fit = b .fit;
+        leastDiscarded = λ other e. b .least other e .0;
+        leastTicks = λ other e d. b .least other e .1 (sym d) .0;
+        outermost = λ other e d t.
+            atMost-first keeps other (omega (arith, fits-length jobs keeps (b .fit), fits-length jobs other e)) (b .least other e .1 (sym d) .1 (sym t));
+      }
+
+  -- and the list that the rules take is it
+  pub taken-best : (jobs : List Job) (keeps : List Bool) → Taken worth jobs keeps → Best jobs keeps
+  unfolding LexAtMost key
+  taken-best jobs keeps t =
+      record {
+        fit = t .fit;
+        least = λ other e. (
+          t .leastDiscarded other e,
+          λ d. (t .leastTicks other e (sym d), λ c. marks-least keeps other (t .outermost other e (sym d) (sym c))),
+        );
+      }
+
+  -- the rules take one list at most
+  pub taken-unique : (jobs : List Job) (a b : List Bool) → Taken worth jobs a → Taken worth jobs b → a ≡ b
+  taken-unique jobs a b p q = best-unique jobs a b (taken-best jobs a p) (taken-best jobs b q)
+
+  -- the better of two lists fits
+  better-fits : (jobs : List Job) (a b : List Bool) → fits jobs a ≡ true → fits jobs (better worth jobs a b) ≡ true
+  unfolding better
+  better-fits jobs a b e =
+      pick-cases (λ c. fits jobs c ≡ true) (and (fits jobs b) (lexLess (key worth jobs b) (key worth jobs a)))
+      (λ s. and-left (fits jobs b) (lexLess (key worth jobs b) (key worth jobs a)) s) (λ s. e)
+
+  -- its key is at most that of the first
+  better-first : (jobs : List Job) (a b : List Bool) → LexAtMost (key worth jobs (better worth jobs a b)) (key worth jobs a)
+  unfolding better
+  better-first jobs a b =
+      pick-cases (λ c. LexAtMost (key worth jobs c) (key worth jobs a)) (and (fits jobs b) (lexLess (key worth jobs b) (key worth jobs a)))
+      (λ s. less→atMost _ _ (and-right (fits jobs b) (lexLess (key worth jobs b) (key worth jobs a)) s))
+      (λ s. atMost-refl (key worth jobs a))
+
+  -- and, where the second fits, at most that of the second
+  better-second : (jobs : List Job) (a b : List Bool) → fits jobs b ≡ true → LexAtMost (key worth jobs (better worth jobs a b)) (key worth jobs b)
+  unfolding better
+  better-second jobs a b e =
+      pick-cases (λ c. LexAtMost (key worth jobs c) (key worth jobs b)) (and (fits jobs b) (lexLess (key worth jobs b) (key worth jobs a)))
+      (λ s. atMost-refl (key worth jobs b))
+      (λ s. notLess→atMost _ _ (and-not-second (fits jobs b) (lexLess (key worth jobs b) (key worth jobs a)) s e))
+
+  -- the best of a list and of some others fits
+  best-fits : (jobs : List Job) (a : List Bool) (bs : List (List Bool)) → fits jobs a ≡ true → fits jobs (best worth jobs a bs) ≡ true
+  unfolding best
+  best-fits jobs a [] e = e
+  best-fits jobs a (b ∷ bs) e = best-fits jobs (better worth jobs a b) bs (better-fits jobs a b e)
+
+  -- its key is at most that of the first
+  best-first : (jobs : List Job) (a : List Bool) (bs : List (List Bool)) → LexAtMost (key worth jobs (best worth jobs a bs)) (key worth jobs a)
+  unfolding best
+  best-first jobs a [] = atMost-refl (key worth jobs a)
+  best-first jobs a (b ∷ bs) = atMost-trans _ _ _ (best-first jobs (better worth jobs a b) bs) (better-first jobs a b)
+
+  -- and at most that of every other that fits
+  best-others : (jobs : List Job) (a : List Bool) (bs : List (List Bool)) (b : List Bool) → List·Memᴰ b bs → fits jobs b ≡ true
+      → LexAtMost (key worth jobs (best worth jobs a bs)) (key worth jobs b)
+  unfolding best
+  best-others jobs a bs b (List·Memᴰ·head {xs = xs} q) e =
+      rw (← q) (atMost-trans _ _ _ (best-first jobs (better worth jobs a b) xs) (better-second jobs a b e))
+  best-others jobs a bs b (List·Memᴰ·tail {x = x} {xs = xs} m) e = best-others jobs (better worth jobs a x) xs b m e
+
+  -- the chosen list is best
+  pub chosen-best : (jobs : List Job) → fits jobs (keepNone jobs) ≡ true → Best jobs (chosenBy worth jobs)
+  unfolding chosenBy
+  chosen-best jobs none =
+      record {
+        fit = best-fits jobs _ (keepLists jobs) none;
+        least = λ other e. best-others jobs _ (keepLists jobs) other (among jobs other e) e;
+      }
+
+  -- The choice meets the rules: it fits, no list that fits discards less, of those that discard as much none keeps fewer ticks, and of those
+  -- that keep as many every other discards at the outermost job where the two differ.
+  pub chosen-taken : (jobs : List Job) → fits jobs (keepNone jobs) ≡ true → Taken worth jobs (chosenBy worth jobs)
+  chosen-taken jobs none = best-taken jobs _ (chosen-best jobs none)
+
+  -- A list that meets the rules is the chosen one.
+  pub taken-chosen : (jobs : List Job) (keeps : List Bool) → Taken worth jobs keeps → keeps ≡ chosenBy worth jobs
+  taken-chosen jobs keeps t = taken-unique jobs _ _ t (chosen-taken jobs (none-fits jobs keeps (t .fit)))
+
+  -- The chosen list has one mark a job.
+  pub chosen-length : (jobs : List Job) → fits jobs (keepNone jobs) ≡ true → length (chosenBy worth jobs) ≡ length jobs
+  chosen-length jobs none = fits-length jobs _ (chosen-best jobs none .fit)
+
+-- The choice by rows.
+module _ (worth : Job → ℕ) (huge : ℕ) where
+  -- the marks read back from the greatest worth are best
+  backtrack-best : (jobs : List Job) (v x : ℕ) → row worth huge jobs v ≡ x → x < huge
+      → ((other : List Bool) → fits jobs other ≡ true → keptWorth worth jobs other ≤ v) → Best worth jobs (backtrack worth huge jobs v x)
+  unfolding LexAtMost key
+  backtrack-best jobs v x e l most =
+      let f = backtrack-keeps worth huge jobs v x e l in
+      let all = worth-split worth jobs (backtrack worth huge jobs v x) (f .fit) in
+      record {
+        fit = f .fit;
+        least = λ other s.
+            let all′ = worth-split worth jobs other s in
+            let m = most other s in (
+              omega arith,
+              λ d.
+                  let w : keptWorth worth jobs other ≡ v = omega arith in
+                  let r = rw w at (row-least worth huge jobs other s) in
+                  (omega arith, λ c. backtrack-first worth huge jobs v x other e l (record { fit = s; value = w; ticks = omega arith })),
+            );
+      }
+
+  -- no list that fits keeps more than the best worth, and the row is below huge there
+  best-worth : (jobs : List Job) → outermostTicks jobs < huge → (keeps : List Bool) → fits jobs keeps ≡ true
+      → (row worth huge jobs (bestWorth worth huge jobs) < huge) × (keptWorth worth jobs keeps ≤ bestWorth worth huge jobs)
+  best-worth jobs o keeps e =
+      greatest-is huge (row worth huge jobs) (allWorth worth jobs) (keptWorth worth jobs keeps)
+      (omega (arith, worth-split worth jobs keeps e)) (omega (arith, row-least worth huge jobs keeps e, ticks-outermost jobs keeps e))
+
+  -- the list that the rows give is best
+  pub rows-best : (jobs : List Job) → outermostTicks jobs < huge → fits jobs (keepNone jobs) ≡ true → Best worth jobs (byRows worth huge jobs)
+  unfolding byRows
+  rows-best jobs o none =
+      backtrack-best jobs (bestWorth worth huge jobs) _ refl ((best-worth jobs o _ none) .0) (λ keeps e. (best-worth jobs o keeps e) .1)
+
+  -- The rows give the chosen list, ties included.
+  pub chosen-rows : (jobs : List Job) → outermostTicks jobs < huge → fits jobs (keepNone jobs) ≡ true → chosenBy worth jobs ≡ byRows worth huge jobs
+  chosen-rows jobs o none = best-unique worth jobs _ _ (chosen-best worth jobs none) (rows-best jobs o none)
+
+  -- The chosen list keeps the best worth, and the ticks of the row there.
+  pub chosen-keeps : (jobs : List Job) → outermostTicks jobs < huge → fits jobs (keepNone jobs) ≡ true
+      → Keeps worth jobs (bestWorth worth huge jobs) (row worth huge jobs (bestWorth worth huge jobs)) (chosenBy worth jobs)
+  unfolding byRows
+  chosen-keeps jobs o none =
+      rw (chosen-rows jobs o none) (backtrack-keeps worth huge jobs (bestWorth worth huge jobs) _ refl ((best-worth jobs o _ none) .0))
+
+-- Where optional parts of 0 ticks are worth nothing, the chosen list marks each as kept.
+pub chosen-zero : (worth : Job → ℕ) → ((job : Job) → job .optional ≡ 0 → worth job ≡ 0) → (jobs : List Job) → fits jobs (keepNone jobs) ≡ true
+    → ZeroKept jobs (chosenBy worth jobs)
+unfolding byRows
+chosen-zero worth free jobs none =
+    let huge = suc (outermostTicks jobs) in
+    rw (chosen-rows worth huge jobs (omega arith) none)
+    (backtrack-zero worth huge free jobs (bestWorth worth huge jobs) _ refl ((best-worth worth huge jobs (omega arith) _ none) .0))
+
+-- An optional part of 0 ticks counts as worth nothing.
+pub counted-zero : (value : Job → ℕ) (job : Job) → job .optional ≡ 0 → counted value job ≡ 0
+counted-zero value job e =
+    pick-cases (λ z. z ≡ 0) (counts job) (λ t. absurd (omega (arith, ltb-true))) (λ t. refl)
+
+-- The planner's list marks each optional part of 0 ticks as kept.
+pub chosen-zero-kept : (jobs : List Job) → fits jobs (keepNone jobs) ≡ true → ZeroKept jobs (chosen jobs)
+chosen-zero-kept jobs none = chosen-zero _ (counted-zero (λ job. 1)) jobs none
+
+-- Such a list has true at the place of each optional part of 0 ticks.
+pub zero-kept-at : (jobs : List Job) (keeps : List Bool) → ZeroKept jobs keeps → (k : ℕ) → k < length jobs → getD jobs k noJob .optional ≡ 0
+    → getD keeps k false ≡ true
+zero-kept-at [] keeps z k l e = absurd (omega arith)
+zero-kept-at (job ∷ jobs) [] z k l e = absurd z
+zero-kept-at (job ∷ jobs) (keep ∷ keeps) z zero l e = z .0 e
+zero-kept-at (job ∷ jobs) (keep ∷ keeps) z (suc k) l e = zero-kept-at jobs keeps (z .1) k (omega arith) e

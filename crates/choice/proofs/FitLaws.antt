@@ -1,0 +1,116 @@
+-- Laws of lists that fit: what they keep and discard, and how a fitting list begins.
+use Prim.Native.Nat.{ℕ, suc, _+_, _≤_}
+use mathlib.Core.Path.{_≡_, refl, ap}
+use mathlib.Core.List.{List, [], _∷_}
+use mathlib.Core.Bool.{Bool, true, false, not}
+use native.Mathlib.Omega.{arith}
+use lib.Dec.{leb}
+use lib.ListN.{length}
+use borrow.Author.Tests.{leb-true, le-leb}
+use Rattle.base.specs.Tests.{and}
+use Rattle.base.proofs.TestLaws.{cases, both-absurd, and-true, and-left, and-right}
+use Rattle.schedule.specs.declared.Job.{Job}
+use Rattle.schedule.specs.Jobs.{workOf, counts}
+use Rattle.schedule.specs.Ticks.{one}
+use Rattle.choice.specs.Choice.{windowTicks, workWith, totalWork, fits, keepNone, keptTicks, discardedWorth, keptWorth, kept, discarded}
+use Rattle.choice.specs.Rows.{mandatorySum, outermostTicks, allWorth}
+
+-- the work under a Bool mark is the work under the mark as a number
+pub work-mark : (job : Job) (keep : Bool) → workOf job (one keep) ≡ workWith job keep
+work-mark job true = refl
+work-mark job false = refl
+
+-- where a list fits, the first window has room for all work
+pub fits-head : (job : Job) (jobs : List Job) (keep : Bool) (keeps : List Bool) → fits (job ∷ jobs) (keep ∷ keeps) ≡ true
+    → workWith job keep + totalWork jobs keeps ≤ windowTicks job
+unfolding fits
+fits-head job jobs keep keeps e =
+    leb-true _ _ (and-left (leb (workWith job keep + totalWork jobs keeps) (windowTicks job)) (fits jobs keeps) e)
+
+-- and the rest of the list fits
+pub fits-tail : (job : Job) (jobs : List Job) (keep : Bool) (keeps : List Bool) → fits (job ∷ jobs) (keep ∷ keeps) ≡ true → fits jobs keeps ≡ true
+unfolding fits
+fits-tail job jobs keep keeps e = and-right (leb (workWith job keep + totalWork jobs keeps) (windowTicks job)) (fits jobs keeps) e
+
+-- a list fits where the first window has room for all work and the rest fits
+pub fits-cons : (job : Job) (jobs : List Job) (keep : Bool) (keeps : List Bool) → workWith job keep + totalWork jobs keeps ≤ windowTicks job
+    → fits jobs keeps ≡ true → fits (job ∷ jobs) (keep ∷ keeps) ≡ true
+unfolding fits
+fits-cons job jobs keep keeps h e =
+    and-true (leb (workWith job keep + totalWork jobs keeps) (windowTicks job)) (fits jobs keeps) (le-leb _ _ h) e
+
+-- a list that fits has one mark a job
+pub fits-length : (jobs : List Job) (keeps : List Bool) → fits jobs keeps ≡ true → length keeps ≡ length jobs
+unfolding fits
+fits-length [] [] e = refl
+fits-length [] (keep ∷ keeps) e = both-absurd false e refl
+fits-length (job ∷ jobs) [] e = both-absurd false e refl
+fits-length (job ∷ jobs) (keep ∷ keeps) e = ap suc (fits-length jobs keeps (fits-tail job jobs keep keeps e))
+
+-- all work is the mandatory ticks and the kept optional ones
+pub work-split : (jobs : List Job) (keeps : List Bool) → fits jobs keeps ≡ true → totalWork jobs keeps ≡ mandatorySum jobs + keptTicks jobs keeps
+unfolding fits totalWork keptTicks mandatorySum
+work-split [] [] e = refl
+work-split [] (keep ∷ keeps) e = both-absurd false e refl
+work-split (job ∷ jobs) [] e = both-absurd false e refl
+work-split (job ∷ jobs) (keep ∷ keeps) e = omega (arith, work-split jobs keeps (fits-tail job jobs keep keeps e))
+
+-- where a list fits, the first window has room for all mandatory ticks and the kept ones
+pub fits-room : (job : Job) (jobs : List Job) (keep : Bool) (keeps : List Bool) → fits (job ∷ jobs) (keep ∷ keeps) ≡ true
+    → mandatorySum (job ∷ jobs) + keptTicks (job ∷ jobs) (keep ∷ keeps) ≤ windowTicks job
+unfolding keptTicks mandatorySum
+fits-room job jobs keep keeps e =
+    omega (arith, fits-head job jobs keep keeps e, work-split jobs keeps (fits-tail job jobs keep keeps e))
+
+-- and the other way round
+pub room-fits : (job : Job) (jobs : List Job) (keep : Bool) (keeps : List Bool) → fits jobs keeps ≡ true
+    → mandatorySum (job ∷ jobs) + keptTicks (job ∷ jobs) (keep ∷ keeps) ≤ windowTicks job → fits (job ∷ jobs) (keep ∷ keeps) ≡ true
+unfolding keptTicks mandatorySum
+room-fits job jobs keep keeps e h = fits-cons job jobs keep keeps (omega (arith, work-split jobs keeps e)) e
+
+-- the list that keeps nothing keeps no ticks
+pub none-ticks : (jobs : List Job) → keptTicks jobs (keepNone jobs) ≡ 0
+unfolding keptTicks
+none-ticks [] = refl
+none-ticks (job ∷ jobs) = omega (arith, none-ticks jobs)
+
+-- if any list fits, the one that keeps nothing does
+pub none-fits : (jobs : List Job) (keeps : List Bool) → fits jobs keeps ≡ true → fits jobs (keepNone jobs) ≡ true
+unfolding fits keptTicks
+none-fits [] [] e = refl
+none-fits [] (keep ∷ keeps) e = both-absurd false e refl
+none-fits (job ∷ jobs) [] e = both-absurd false e refl
+none-fits (job ∷ jobs) (keep ∷ keeps) e =
+    room-fits job jobs false (keepNone jobs) (none-fits jobs keeps (fits-tail job jobs keep keeps e))
+    (omega (arith, none-ticks jobs, fits-room job jobs keep keeps e))
+
+-- no list that fits keeps more than the ticks of the outermost window
+pub ticks-outermost : (jobs : List Job) (keeps : List Bool) → fits jobs keeps ≡ true → keptTicks jobs keeps ≤ outermostTicks jobs
+unfolding fits keptTicks
+ticks-outermost [] keeps e = omega arith
+ticks-outermost (job ∷ jobs) [] e = omega arith
+ticks-outermost (job ∷ jobs) (keep ∷ keeps) e = omega (arith, fits-room job jobs keep keeps e)
+
+-- what is discarded and what is kept are all worth
+pub worth-split : (worth : Job → ℕ) (jobs : List Job) (keeps : List Bool) → fits jobs keeps ≡ true
+    → discardedWorth worth jobs keeps + keptWorth worth jobs keeps ≡ allWorth worth jobs
+unfolding fits discardedWorth keptWorth allWorth
+worth-split worth [] [] e = refl
+worth-split worth [] (keep ∷ keeps) e = both-absurd false e refl
+worth-split worth (job ∷ jobs) [] e = both-absurd false e refl
+worth-split worth (job ∷ jobs) (true ∷ keeps) e = omega (arith, worth-split worth jobs keeps (fits-tail job jobs true keeps e))
+worth-split worth (job ∷ jobs) (false ∷ keeps) e = omega (arith, worth-split worth jobs keeps (fits-tail job jobs false keeps e))
+
+-- what the first job adds to the number kept
+pub kept-cons : (job : Job) (jobs : List Job) (keep : Bool) (keeps : List Bool)
+    → kept (job ∷ jobs) (keep ∷ keeps) ≡ one (and (counts job) keep) + kept jobs keeps
+unfolding keptWorth
+kept-cons job jobs true keeps = cases (counts job) (λ e. rw e) (λ e. rw e)
+kept-cons job jobs false keeps = cases (counts job) (λ e. rw e) (λ e. rw e)
+
+-- what the first job adds to the number discarded
+pub discarded-cons : (job : Job) (jobs : List Job) (keep : Bool) (keeps : List Bool)
+    → discarded (job ∷ jobs) (keep ∷ keeps) ≡ one (and (counts job) (not keep)) + discarded jobs keeps
+unfolding discardedWorth
+discarded-cons job jobs true keeps = cases (counts job) (λ e. rw e) (λ e. rw e)
+discarded-cons job jobs false keeps = cases (counts job) (λ e. rw e) (λ e. rw e)

@@ -1,0 +1,6 @@
+pub mod PickLaws
+pub mod OrderLaws
+pub mod FitLaws
+pub mod RowLaws
+pub mod ChoiceLaws
+pub mod SampleLaws

@@ -1,0 +1,26 @@
+-- The samples of the choice, computed.
+use Prim.Native.Nat.{_+_, _-_}
+use mathlib.Core.Path.{_≡_, refl}
+use mathlib.Core.List.{[], _∷_}
+use mathlib.Core.Bool.{true, false}
+use Rattle.schedule.specs.Runnings.{All}
+use Rattle.choice.specs.Choice.{totalWork, fits, keepLists, keptTicks, lexLess, discardedWorth, key, better, best, chosenBy, counted, countOne}
+use Rattle.choice.specs.Rows.{mandatorySum, allWorth, within, keeping, row, greatest, backtrack, byRows}
+use Rattle.choice.specs.ChoiceSamples.{p8Jobs, choiceSamples, SampleHolds}
+
+-- The choice gives the marks of every sample.
+pub choice-samples : All SampleHolds choiceSamples
+unfolding totalWork fits keepLists keptTicks lexLess discardedWorth key better best chosenBy
+choice-samples = (refl, (refl, (refl, (refl, (refl, tt)))))
+
+-- So do the rows.
+pub row-samples : All (λ sample. byRows countOne 1000 (sample .jobs) ≡ sample .marks) choiceSamples
+unfolding mandatorySum allWorth within keeping row greatest backtrack byRows
+row-samples = (refl, (refl, (refl, (refl, (refl, tt)))))
+
+-- P8 with its parts worth 1, 2, 3 and 3, 2, 1: other lists are chosen.
+pub worth-samples :
+    (chosenBy (counted (λ job. job .position + 1)) p8Jobs ≡ false ∷ true ∷ true ∷ [])
+    × (chosenBy (counted (λ job. 3 - job .position)) p8Jobs ≡ true ∷ true ∷ false ∷ [])
+unfolding totalWork fits keepLists keptTicks lexLess discardedWorth key better best chosenBy
+worth-samples = (refl, refl)

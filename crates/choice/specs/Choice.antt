@@ -1,0 +1,140 @@
+-- Which optional parts a plan keeps. Jobs stand outermost first (nest order from its last to its first), and so do the marks of a keep list:
+-- true keeps the optional part of its job, false discards it. The jobs before one in nest order are those after it in the list.
+use Prim.Native.Nat.{ℕ, _+_, _-_, _≤_}
+use mathlib.Core.Path.{_≡_}
+use mathlib.Core.Logic.{_⊎_}
+use mathlib.Core.List.{List, [], _∷_, _++_, map}
+use mathlib.Core.Bool.{Bool, true, false, not}
+use lib.Dec.{leb, ltb, eqb}
+use Rattle.base.specs.Tests.{pick, and}
+use Rattle.schedule.specs.declared.Job.{Job}
+use Rattle.schedule.specs.Jobs.{counts}
+use Rattle.schedule.specs.Ticks.{one}
+
+-- the ticks of a window, from its release, included, to its deadline, excluded; none where the deadline is not after the release
+abbrev pub windowTicks : Job → ℕ
+windowTicks job = job .deadline - job .release
+
+-- 'A task's work is its mandatory ticks, plus its optional ticks where kept.'
+abbrev pub workWith : Job → Bool → ℕ
+workWith job keep = job .mandatory + pick keep (job .optional) 0
+
+-- the work of all jobs together
+unfoldable pub totalWork : List Job → List Bool → ℕ
+totalWork [] keeps = 0
+totalWork (job ∷ jobs) [] = 0
+totalWork (job ∷ jobs) (keep ∷ keeps) = workWith job keep + totalWork jobs keeps
+
+-- 'A keep list has one mark a task, 1 kept, 0 discarded. A list fits if, for each task in nest order, its work and that of all tasks before it
+-- come to no more than the ticks of its window.' A list with fewer or more marks than jobs does not fit.
+unfoldable pub fits : List Job → List Bool → Bool
+fits [] [] = true
+fits [] (keep ∷ keeps) = false
+fits (job ∷ jobs) [] = false
+fits (job ∷ jobs) (keep ∷ keeps) = and (leb (workWith job keep + totalWork jobs keeps) (windowTicks job)) (fits jobs keeps)
+
+-- every list of one mark a job
+unfoldable pub keepLists : List Job → List (List Bool)
+keepLists [] = [] ∷ []
+keepLists (job ∷ jobs) = map (λ keeps. true ∷ keeps) (keepLists jobs) ++ map (λ keeps. false ∷ keeps) (keepLists jobs)
+
+-- the list that keeps nothing
+abbrev pub keepNone : List Job → List Bool
+keepNone jobs = map (λ job. false) jobs
+
+-- 'the total of kept optional ticks'
+unfoldable pub keptTicks : List Job → List Bool → ℕ
+keptTicks [] keeps = 0
+keptTicks (job ∷ jobs) [] = 0
+keptTicks (job ∷ jobs) (keep ∷ keeps) = pick keep (job .optional) 0 + keptTicks jobs keeps
+
+-- the marks as numbers, less for a part that is kept: of two lists the less, in the order below, keeps at the outermost job where they differ
+abbrev pub discardMarks : List Bool → List ℕ
+discardMarks keeps = map (λ keep. one (not keep)) keeps
+
+-- the lexicographic order of lists of numbers: where two first differ, the first has the lesser number
+unfoldable pub lexLess : List ℕ → List ℕ → Bool
+lexLess [] [] = false
+lexLess [] (b ∷ ys) = true
+lexLess (a ∷ xs) [] = false
+lexLess (a ∷ xs) (b ∷ ys) = pick (ltb a b) true (and (eqb a b) (lexLess xs ys))
+
+-- The choice, over a worth of each optional part.
+module _ (worth : Job → ℕ) where
+  -- what the discarded optional parts are worth
+  unfoldable pub discardedWorth : List Job → List Bool → ℕ
+  discardedWorth [] keeps = 0
+  discardedWorth (job ∷ jobs) [] = 0
+  discardedWorth (job ∷ jobs) (keep ∷ keeps) = pick keep 0 (worth job) + discardedWorth jobs keeps
+
+  -- what the kept optional parts are worth
+  unfoldable pub keptWorth : List Job → List Bool → ℕ
+  keptWorth [] keeps = 0
+  keptWorth (job ∷ jobs) [] = 0
+  keptWorth (job ∷ jobs) (keep ∷ keeps) = pick keep (worth job) 0 + keptWorth jobs keeps
+
+  -- What the three rules look at, one after the other: 'one that discards fewest optional parts', 'then the least total of kept optional
+  -- ticks', 'then, at the outermost task where two lists differ, the one that keeps'.
+  unfoldable pub key : List Job → List Bool → List ℕ
+  key jobs keeps = discardedWorth jobs keeps ∷ keptTicks jobs keeps ∷ discardMarks keeps
+
+  -- of two lists the second, where it fits and the rules prefer it, and else the first
+  unfoldable pub better : List Job → List Bool → List Bool → List Bool
+  better jobs a b = pick (and (fits jobs b) (lexLess (key jobs b) (key jobs a))) b a
+
+  -- the best of a list and of some others
+  unfoldable pub best : List Job → List Bool → List (List Bool) → List Bool
+  best jobs a [] = a
+  best jobs a (b ∷ bs) = best jobs (better jobs a b) bs
+
+  -- 'Among fitting lists the planner takes' the best of all. Where the list that keeps nothing does not fit, no list does, and there is no plan.
+  unfoldable pub chosenBy : List Job → List Bool
+  chosenBy jobs = best jobs (keepNone jobs) (keepLists jobs)
+
+-- What the rules ask of the list that is taken, rule by rule, as statements about every other list that fits. The choice meets them, and no other
+-- list does: the theorems `chosen-taken` and `taken-chosen`.
+
+-- two lists differ, and at the outermost job where they do, the first keeps: up to that job both have the marks `same`
+pub record KeepsFirst (a b : List Bool) : Type 0 where
+  pub same : List Bool
+  pub restA : List Bool
+  pub restB : List Bool
+  pub keeps : a ≡ same ++ true ∷ restA
+  pub discards : b ≡ same ++ false ∷ restB
+
+-- the list fits; no list that fits discards less; of those that discard as much none keeps fewer ticks; and it keeps at the outermost job where
+-- it differs from another of those that keep as many
+pub record Taken (worth : Job → ℕ) (jobs : List Job) (keeps : List Bool) : Type 0 where
+  pub fit : fits jobs keeps ≡ true
+  pub leastDiscarded : (other : List Bool) → fits jobs other ≡ true → discardedWorth worth jobs keeps ≤ discardedWorth worth jobs other
+  pub leastTicks : (other : List Bool) → fits jobs other ≡ true → discardedWorth worth jobs other ≡ discardedWorth worth jobs keeps
+      → keptTicks jobs keeps ≤ keptTicks jobs other
+  pub outermost : (other : List Bool) → fits jobs other ≡ true → discardedWorth worth jobs other ≡ discardedWorth worth jobs keeps
+      → keptTicks jobs other ≡ keptTicks jobs keeps → (other ≡ keeps) ⊎ KeepsFirst keeps other
+
+-- 'An optional part of 0 ticks .. enters neither count': it is worth nothing
+abbrev pub counted : (Job → ℕ) → Job → ℕ
+counted value job = pick (counts job) (value job) 0
+
+-- any other is worth 1
+abbrev pub countOne : Job → ℕ
+countOne = counted (λ job. 1)
+
+-- 'The planner's kept and discarded are the numbers of marks 1 and 0 in its keep list at optional parts above 0 ticks.' Here the kept,
+abbrev pub kept : List Job → List Bool → ℕ
+kept = keptWorth countOne
+
+-- and here the discarded
+abbrev pub discarded : List Job → List Bool → ℕ
+discarded = discardedWorth countOne
+
+-- the planner's keep list
+abbrev pub chosen : List Job → List Bool
+chosen = chosenBy countOne
+
+-- 'An optional part of 0 ticks is marked 1': the list has one mark a job, and true for each such part
+abbrev pub ZeroKept : List Job → List Bool → Type 0
+ZeroKept [] [] = Unit {0}
+ZeroKept [] (keep ∷ keeps) = ⊥
+ZeroKept (job ∷ jobs) [] = ⊥
+ZeroKept (job ∷ jobs) (keep ∷ keeps) = (job .optional ≡ 0 → keep ≡ true) × ZeroKept jobs keeps

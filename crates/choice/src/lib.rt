@@ -1,0 +1,1 @@
+// The choice of optional parts: which of them a plan keeps.
