@@ -12,17 +12,12 @@ use lib.Dec.{eqb}
 use borrow.Author.Tests.{eqb-true, ne-eqb}
 use Rattle.base.proofs.TestLaws.{cases}
 use Rattle.schedule.specs.Ticks.{Owner, isTask, one, countBelow, ticksOf}
-use Rattle.schedule.specs.Runnings.{All}
+use Rattle.schedule.specs.Runnings.{All, Distinct}
 
 -- the ticks that some tasks have between a and b, summed
 unfoldable pub shares : Owner → List ℕ → ℕ → ℕ → ℕ
 shares owner [] a b = 0
 shares owner (i ∷ is) a b = ticksOf owner i a b + shares owner is a b
-
--- no number stands twice
-abbrev pub Distinct : List ℕ → Type 0
-Distinct [] = Unit {0}
-Distinct (i ∷ is) = All (λ k. i ≢ k) is × Distinct is
 
 -- a count grows with its end
 pub count-grows : (test : ℕ → Bool) (a b : ℕ) → a ≤ b → countBelow test a ≤ countBelow test b

@@ -2,7 +2,7 @@
 -- gets ticks of its window only, and as many as its mandatory ticks or as its mandatory and optional ticks together.
 use Prim.Native.Nat.{ℕ, _+_, _≤_, _<_}
 use mathlib.Core.Path.{_≡_}
-use mathlib.Core.Logic.{_⊎_}
+use mathlib.Core.Logic.{_⊎_, _≢_}
 use mathlib.Core.List.{List, [], _∷_}
 use mathlib.Core.Option.{some}
 use lib.Dec.{eqb}
@@ -19,6 +19,11 @@ All P (x ∷ xs) = P x × All P xs
 abbrev pub Any : {A : Type 0} → (A → Type 0) → List A → Type 0
 Any P [] = ⊥
 Any P (x ∷ xs) = P x ⊎ Any P xs
+
+-- no number stands twice
+abbrev pub Distinct : List ℕ → Type 0
+Distinct [] = Unit {0}
+Distinct (i ∷ is) = All (λ k. i ≢ k) is × Distinct is
 
 -- the job has position i, and its window holds the tick
 abbrev pub Holds : ℕ → ℕ → Job → Type 0

@@ -1,0 +1,105 @@
+-- A running of a chain exists exactly where the mandatory parts alone fit; the chosen list, placed, is a running that discards fewest.
+use Prim.Native.Nat.{ℕ, _≤_}
+use mathlib.Core.Path.{_≡_, refl}
+use mathlib.Core.Logic.{inl, inr, _↔_}
+use mathlib.Core.List.{List, [], _∷_}
+use mathlib.Core.Bool.{Bool, true, false, not}
+use native.Mathlib.Omega.{arith}
+use lib.Dec.{eqb}
+use borrow.Author.Tests.{ne-eqb, eq-eqb, ltb-true}
+use Rattle.base.specs.Tests.{and}
+use Rattle.base.proofs.TestLaws.{cases}
+use Rattle.schedule.specs.declared.Job.{Job}
+use Rattle.schedule.specs.Jobs.{counts}
+use Rattle.schedule.specs.Ticks.{Owner}
+use Rattle.schedule.specs.Runnings.{All, got, Gets, Running, discards}
+use Rattle.choice.specs.Choice.{workWith, fits, keepNone, discardedWorth, countOne, discarded, chosen}
+use Rattle.choice.proofs.FitLaws.{none-fits, discarded-cons}
+use Rattle.choice.proofs.ChoiceLaws.{chosen-taken}
+use Rattle.placement.specs.Nesting.{Chain}
+use Rattle.placement.specs.Placing.{placed}
+use Rattle.placement.specs.Outcomes.{GetsWork, Fewest}
+use Rattle.placement.proofs.Necessity.{marksOf, running-fits, running-discards}
+use Rattle.placement.proofs.Sufficiency.{fits-placed}
+
+-- a job that gets its work under a mark gets one of its two amounts
+work-gets : (owner : Owner) (job : Job) (keep : Bool) → got owner job ≡ workWith job keep → Gets owner job
+work-gets owner job true e = inr e
+work-gets owner job false e = inl (omega arith)
+
+-- so do all jobs that get the work of a list
+all-get : (owner : Owner) (jobs : List Job) (keeps : List Bool) → GetsWork jobs keeps owner → All (Gets owner) jobs
+all-get owner [] keeps g = tt
+all-get owner (job ∷ jobs) [] g = absurd g
+all-get owner (job ∷ jobs) (keep ∷ keeps) g = (work-gets owner job keep (g .0), all-get owner jobs keeps (g .1))
+
+-- for an optional part above 0 ticks: its job gets the mandatory ticks alone exactly where it is not kept
+work-discards : (g : ℕ) (job : Job) (keep : Bool) → g ≡ workWith job keep → and (counts job) (eqb g (job .mandatory)) ≡ and (counts job) (not keep)
+work-discards g job true e =
+    cases (counts job) (λ q. let p = ltb-true 0 (job .optional) q in rw (q, ne-eqb g (job .mandatory) (omega arith))) (λ q. rw q)
+work-discards g job false e = rw (eq-eqb g (job .mandatory) (omega arith))
+
+-- jobs that get the work of a list discard what the list discards
+pub list-discards : (owner : Owner) (jobs : List Job) (keeps : List Bool) → GetsWork jobs keeps owner → discards jobs owner ≡ discarded jobs keeps
+unfolding discards discardedWorth
+list-discards owner [] keeps g = refl
+list-discards owner (job ∷ jobs) [] g = absurd g
+list-discards owner (job ∷ jobs) (keep ∷ keeps) g =
+    rw (discarded-cons job jobs keep keeps, work-discards (got owner job) job keep (g .0)) (omega (arith, list-discards owner jobs keeps (g .1)))
+
+-- A list that fits, placed, is a running.
+pub placed-running : (jobs : List Job) (keeps : List Bool) → Chain jobs → fits jobs keeps ≡ true → Running jobs (placed jobs keeps)
+placed-running jobs keeps c e =
+    let p = fits-placed jobs keeps c e in
+    record { inside = p .inside; gets = all-get (placed jobs keeps) jobs keeps (p .work) }
+
+-- In it each job gets its work under its mark.
+pub placed-work : (jobs : List Job) (keeps : List Bool) → Chain jobs → fits jobs keeps ≡ true → GetsWork jobs keeps (placed jobs keeps)
+placed-work jobs keeps c e = fits-placed jobs keeps c e .work
+
+-- It discards what the list discards.
+pub placed-discards : (jobs : List Job) (keeps : List Bool) → Chain jobs → fits jobs keeps ≡ true
+    → discards jobs (placed jobs keeps) ≡ discarded jobs keeps
+placed-discards jobs keeps c e = list-discards (placed jobs keeps) jobs keeps (placed-work jobs keeps c e)
+
+-- A running of a chain exists exactly where the mandatory parts alone fit.
+pub running-exists : (jobs : List Job) → Chain jobs → ((owner : Owner) × Running jobs owner) ↔ (fits jobs (keepNone jobs) ≡ true)
+running-exists jobs c = (
+  λ r. none-fits jobs (marksOf jobs (r .0)) (running-fits jobs (r .0) c (r .1)),
+  λ e. (placed jobs (keepNone jobs), placed-running jobs (keepNone jobs) c e),
+)
+
+-- A fitting list that no fitting list discards fewer than: no running discards fewer.
+pub list-least : (jobs : List Job) (keeps : List Bool) → Chain jobs
+    → ((other : List Bool) → fits jobs other ≡ true → discarded jobs keeps ≤ discarded jobs other)
+    → (owner : Owner) → Running jobs owner → discarded jobs keeps ≤ discards jobs owner
+list-least jobs keeps c least owner r = omega (arith, least (marksOf jobs owner) (running-fits jobs owner c r), running-discards jobs owner r)
+
+-- The chosen list of a chain whose mandatory parts alone fit.
+module _ (jobs : List Job) (c : Chain jobs) (none : fits jobs (keepNone jobs) ≡ true) where
+  -- it fits
+  pub chosen-fits : fits jobs (chosen jobs) ≡ true
+  chosen-fits = chosen-taken countOne jobs none .fit
+
+  -- Placed, it is a running,
+  pub chosen-running : Running jobs (placed jobs (chosen jobs))
+  chosen-running = placed-running jobs (chosen jobs) c chosen-fits
+
+  -- in which each job gets its work under its mark,
+  pub chosen-work : GetsWork jobs (chosen jobs) (placed jobs (chosen jobs))
+  chosen-work = placed-work jobs (chosen jobs) c chosen-fits
+
+  -- and that discards what the list discards.
+  pub chosen-discards : discards jobs (placed jobs (chosen jobs)) ≡ discarded jobs (chosen jobs)
+  chosen-discards = placed-discards jobs (chosen jobs) c chosen-fits
+
+  -- Every running of the jobs discards at least as many.
+  pub chosen-least : (owner : Owner) → Running jobs owner → discarded jobs (chosen jobs) ≤ discards jobs owner
+  chosen-least owner r = list-least jobs (chosen jobs) c (chosen-taken countOne jobs none .leastDiscarded) owner r
+
+  -- A running discards just that many exactly where no running of the jobs discards fewer than it.
+  pub chosen-fewest : (owner : Owner) → Running jobs owner → (discards jobs owner ≡ discarded jobs (chosen jobs)) ↔ Fewest jobs owner
+  chosen-fewest owner r = (
+    λ e other s. omega (arith, chosen-least other s),
+    λ f. omega (arith, chosen-least owner r, f (placed jobs (chosen jobs)) chosen-running, chosen-discards),
+  )

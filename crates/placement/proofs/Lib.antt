@@ -1,0 +1,9 @@
+pub mod Necessity
+pub mod Sufficiency
+pub mod Best
+pub mod RunCount
+pub mod RunTicks
+pub mod RunOrder
+pub mod SampleLaws
+pub mod Permutations
+pub mod PlanLaws

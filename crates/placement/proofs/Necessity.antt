@@ -1,0 +1,86 @@
+-- The marks read off a running fit, and discard what the running discards.
+use Prim.Native.Nat.{ℕ, _+_, _-_, _≤_}
+use mathlib.Core.Path.{_≡_, refl, sym}
+use mathlib.Core.Logic.{_⊎_, inl, inr}
+use mathlib.Core.List.{List, [], _∷_, map}
+use mathlib.Core.Bool.{Bool, true, not}
+use native.Mathlib.Omega.{arith}
+use lib.Dec.{ltb, eqb}
+use borrow.Author.Tests.{eqb-true, ne-eqb, eq-eqb, ltb-true}
+use Rattle.base.specs.Tests.{and}
+use Rattle.base.proofs.TestLaws.{cases}
+use Rattle.schedule.specs.declared.Job.{Job}
+use Rattle.schedule.specs.Ticks.{Owner, isTask, ticksOf}
+use Rattle.schedule.specs.Runnings.{All, got, Gets, Running, discards, Distinct}
+use Rattle.schedule.proofs.TickLaws.{shares, count-grows, shares-fit}
+use Rattle.choice.specs.Choice.{workWith, totalWork, fits, discardedWorth, discarded}
+use Rattle.choice.proofs.FitLaws.{fits-cons, discarded-cons}
+use Rattle.placement.specs.Nesting.{Between, Nested, positions, Chain}
+
+-- the marks read off a running: a job is kept where it gets its mandatory and optional ticks together
+abbrev pub isKept : Owner → Job → Bool
+isKept owner job = eqb (got owner job) (job .mandatory + job .optional)
+
+-- the marks of all jobs
+abbrev pub marksOf : List Job → Owner → List Bool
+marksOf jobs owner = map (isKept owner) jobs
+
+-- a job gets its ticks between any two ticks that its window lies between
+got-between : (owner : Owner) (job : Job) (a b : ℕ) → Between a b job → got owner job ≤ ticksOf owner (job .position) a b
+got-between owner job a b u =
+    let test : ℕ → Bool = λ tick. isTask (job .position) (owner tick) in
+    omega (arith, count-grows test a (job .release) (u .0), count-grows test (job .deadline) b (u .1))
+
+-- what a job gets is its work under the mark read off
+work-got : (owner : Owner) (job : Job) → Gets owner job → workWith job (isKept owner job) ≡ got owner job
+work-got owner job (inl e) = cases (isKept owner job) (λ q. rw q (sym (eqb-true _ _ q))) (λ q. rw q (omega arith))
+work-got owner job (inr e) = rw (eq-eqb (got owner job) (job .mandatory + job .optional) e) (sym e)
+
+-- the work under the marks read off is ticks of the jobs, between any two ticks that their windows lie between
+work-shares : (owner : Owner) (jobs : List Job) (a b : ℕ) → All (Between a b) jobs → All (Gets owner) jobs
+    → totalWork jobs (marksOf jobs owner) ≤ shares owner (positions jobs) a b
+unfolding totalWork shares
+work-shares owner [] a b u g = omega arith
+work-shares owner (job ∷ jobs) a b u g =
+    omega (arith, work-got owner job (g .0), got-between owner job a b (u .0), work-shares owner jobs a b (u .1) (g .1))
+
+-- Jobs of different positions whose windows lie between a and b, nested or not: their work is no more than the ticks there.
+pub work-fits : (owner : Owner) (jobs : List Job) (a b : ℕ) → Distinct (positions jobs) → All (Between a b) jobs → All (Gets owner) jobs
+    → totalWork jobs (marksOf jobs owner) ≤ b - a
+work-fits owner jobs a b d u g = omega (arith, work-shares owner jobs a b u g, shares-fit owner (positions jobs) d a b)
+
+-- the marks read off fit
+marks-fit : (owner : Owner) (jobs : List Job) → Nested jobs → Distinct (positions jobs) → All (Gets owner) jobs → fits jobs (marksOf jobs owner) ≡ true
+unfolding fits totalWork
+marks-fit owner [] n d g = refl
+marks-fit owner (job ∷ jobs) n d g =
+    fits-cons job jobs (isKept owner job) (marksOf jobs owner)
+    (work-fits owner (job ∷ jobs) (job .release) (job .deadline) d ((omega arith, omega arith), n .0) g)
+    (marks-fit owner jobs (n .1) (d .1) (g .1))
+
+-- for an optional part above 0 ticks: it is not kept exactly where its job gets its mandatory ticks alone
+mark-discards : (g m o : ℕ) → (g ≡ m) ⊎ (g ≡ m + o) → and (ltb 0 o) (not (eqb g (m + o))) ≡ and (ltb 0 o) (eqb g m)
+mark-discards g m o (inl e) =
+    cases (ltb 0 o)
+    (λ q. let p = ltb-true 0 o q in rw (q, eq-eqb g m e, ne-eqb g (m + o) (omega arith)))
+    (λ q. rw q)
+mark-discards g m o (inr e) =
+    cases (ltb 0 o)
+    (λ q. let p = ltb-true 0 o q in rw (q, eq-eqb g (m + o) e, ne-eqb g m (omega arith)))
+    (λ q. rw q)
+
+-- the marks read off discard what the running discards
+marks-discard : (owner : Owner) (jobs : List Job) → All (Gets owner) jobs → discarded jobs (marksOf jobs owner) ≡ discards jobs owner
+unfolding discardedWorth discards
+marks-discard owner [] g = refl
+marks-discard owner (job ∷ jobs) g =
+    rw (discarded-cons job jobs (isKept owner job) (marksOf jobs owner), mark-discards (got owner job) (job .mandatory) (job .optional) (g .0))
+    (omega (arith, marks-discard owner jobs (g .1)))
+
+-- Necessity: the marks read off a running of a chain fit.
+pub running-fits : (jobs : List Job) (owner : Owner) → Chain jobs → Running jobs owner → fits jobs (marksOf jobs owner) ≡ true
+running-fits jobs owner c r = marks-fit owner jobs (c .nested) (c .distinct) (r .gets)
+
+-- They discard what it discards; for this the jobs need not be a chain.
+pub running-discards : (jobs : List Job) (owner : Owner) → Running jobs owner → discarded jobs (marksOf jobs owner) ≡ discards jobs owner
+running-discards jobs owner r = marks-discard owner jobs (r .gets)

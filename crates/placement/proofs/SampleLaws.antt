@@ -1,0 +1,19 @@
+-- The samples of the placing, computed.
+use mathlib.Core.Path.{_≡_, refl}
+use mathlib.Core.List.{reverse}
+use Rattle.schedule.specs.Runnings.{All}
+use Rattle.schedule.specs.Ticks.{countBelow}
+use Rattle.choice.specs.Choice.{totalWork, fits, keepLists, keptTicks, lexLess, discardedWorth, key, better, best, chosenBy, chosen}
+use Rattle.placement.specs.Placing.{placed, latestFirst}
+use Rattle.placement.specs.Filling.{fill, filled}
+use Rattle.placement.specs.PlacingSamples.{placingSamples, SampleHolds}
+
+-- Placing tick by tick gives the runs of every sample.
+pub placing-samples : All SampleHolds placingSamples
+unfolding totalWork fits keepLists keptTicks lexLess discardedWorth key better best chosenBy placed latestFirst countBelow
+placing-samples = (refl, (refl, (refl, (refl, (refl, tt)))))
+
+-- So does filling.
+pub filling-samples : All (λ sample. reverse (filled (sample .jobs) (chosen (sample .jobs))) ≡ sample .runs) placingSamples
+unfolding totalWork fits keepLists keptTicks lexLess discardedWorth key better best chosenBy fill filled
+filling-samples = (refl, (refl, (refl, (refl, (refl, tt)))))

@@ -1,0 +1,5 @@
+pub mod Nesting
+pub mod Placing
+pub mod Outcomes
+pub mod Filling
+pub mod PlacingSamples

@@ -1,0 +1,33 @@
+-- The samples of the placing in document 01, in ticks: the chosen list is placed, and its runs are those of the document.
+use Prim.Native.Nat.{ℕ}
+use mathlib.Core.Path.{_≡_}
+use mathlib.Core.List.{List, [], _∷_}
+use Rattle.schedule.specs.declared.Job.{Job}
+use Rattle.schedule.specs.Runs.{Run}
+use Rattle.choice.specs.Choice.{chosen}
+use Rattle.choice.specs.ChoiceSamples.{job, p8Jobs, p10Jobs}
+use Rattle.placement.specs.Placing.{placed, stretches}
+
+-- jobs, outermost first, a tick that no deadline is after, and the runs expected
+pub record PlacingSample : Type 0 where
+  pub jobs : List Job
+  pub last : ℕ
+  pub runs : List Run
+
+-- a run from its start, end and task
+abbrev pub run : ℕ → ℕ → ℕ → Run
+run start end task = record { start = start; end = end; task = task }
+
+-- P4, P5, P7, P8 and P10
+abbrev pub placingSamples : List PlacingSample
+placingSamples =
+    record { jobs = job 0 0 200 100 50 ∷ []; last = 200; runs = run 50 200 0 ∷ [] }
+    ∷ record { jobs = job 0 0 200 200 1 ∷ []; last = 200; runs = run 0 200 0 ∷ [] }
+    ∷ record { jobs = job 0 0 200 0 0 ∷ []; last = 200; runs = [] }
+    ∷ record { jobs = p8Jobs; last = 10; runs = run 2 4 0 ∷ run 4 6 2 ∷ run 6 7 0 ∷ run 7 8 1 ∷ run 8 10 0 ∷ [] }
+    ∷ record { jobs = p10Jobs; last = 4; runs = run 1 4 1 ∷ [] }
+    ∷ []
+
+-- placing gives the runs of a sample
+abbrev pub SampleHolds : PlacingSample → Type 0
+SampleHolds sample = stretches (placed (sample .jobs) (chosen (sample .jobs))) (sample .last) ≡ sample .runs

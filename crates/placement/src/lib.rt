@@ -1,0 +1,1 @@
+// The placing of work: which ticks each task gets, and the runs that they make.
