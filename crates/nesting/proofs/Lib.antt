@@ -1,1 +1,2 @@
 pub mod NestLaws
+pub mod TableRunnings
