@@ -1,0 +1,54 @@
+-- `schedule_test::many::rising` is safe and ends: the measure is the number of places left.
+use Prim.Native.Nat.{_-_}
+use borrow.Author.Needs.{needs}
+use Rattle.schedule_test.proofs.many.rising.Statement.{statement}
+use Rattle.schedule_test.proofs.many.rising.Tie as tie
+
+abbrev Inv-loop : tie.InvT-loop
+Inv-loop least list₀ i₀ list i = Unit
+
+abbrev μ-loop : tie.MeasureT-loop
+μ-loop least list₀ i₀ list i = 4097 - i
+
+loop-holds : tie.Need-loop-holds Inv-loop μ-loop
+loop-holds c = search needs
+
+add-list : tie.Need-add-list Inv-loop μ-loop
+add-list c = search needs
+
+cast-list : tie.Need-cast-list Inv-loop μ-loop
+cast-list c = search needs
+
+mul-list : tie.Need-mul-list Inv-loop μ-loop
+mul-list c = search needs
+
+array-write-list : tie.Need-array-write-list Inv-loop μ-loop
+array-write-list c = search needs
+
+add-i : tie.Need-add-i Inv-loop μ-loop
+add-i c = search needs
+
+loop-less : tie.Need-loop-less Inv-loop μ-loop
+loop-less c = search needs
+
+loop-again : tie.Need-loop-again Inv-loop μ-loop
+loop-again c = search needs
+
+returns : tie.Need-returns Inv-loop μ-loop
+returns c = search needs
+
+pub rising-spec : {M : Type 1} → statement M
+rising-spec =
+    tie.close
+    (tie.spec
+    Inv-loop
+    μ-loop
+    loop-holds
+    add-list
+    cast-list
+    mul-list
+    array-write-list
+    add-i
+    loop-less
+    loop-again
+    returns)

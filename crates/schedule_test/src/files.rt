@@ -1,0 +1,58 @@
+// Table files for the cases.
+
+// Sample P4: one task, period 100/1, frames 0 to 2, mandatory 100, optional 50.
+pub const P4: [u8; 12] = *b"\x02\x0C\x80\x02\x00\x00\x00\x01\x00\xC8\x01\x90";
+
+// Sample P5: that window with 200 and 1.
+pub const P5: [u8; 12] = *b"\x02\x0C\x80\x02\x00\x00\x00\x01\x01\x90\x00\x08";
+
+// Sample P7: that window with 0 and 0.
+pub const P7: [u8; 12] = *b"\x02\x0C\x80\x02\x00\x00\x00\x01\x00\x00\x00\x00";
+
+// Sample P8: period 1/1, windows 0 to 10 with 2 and 3, 2 to 8 with 1 and 3, 4 to 6 with 1 and 1.
+pub const P8: [u8; 28] =
+    *b"\x06\x00\x20\x02\x00\x00\x00\x05\x00\x04\x00\x18\x00\x08\x00\x10\x00\x08\x00\x60\x00\x40\x00\x30\x00\x20\x00\x80";
+
+// Sample P9: windows 0 to 5 and 5 to 9.
+pub const P9: [u8; 20] =
+    *b"\x04\x00\x20\x02\x00\x00\x00\x02\x80\x02\x00\x08\x00\x14\x00\x12\x00\x08\x00\x20";
+
+// Sample P10: two windows 0 to 4, each with 0 and 3.
+pub const P10: [u8; 20] =
+    *b"\x04\x00\x20\x02\x00\x00\x00\x02\x00\x00\x00\x18\x00\x00\x00\x08\x00\x00\x00\x60";
+
+// Period 1/1, window 0 to 10 with 2 and 0, window 2 to 8 with 1 and 1.
+pub const OPTIONAL_0: [u8; 20] =
+    *b"\x04\x00\x20\x02\x00\x00\x00\x05\x00\x04\x00\x00\x00\x08\x00\x10\x00\x08\x00\x20";
+
+// Period 1001/10, frames 1 to 2 with 10 and 5: the ticks 101 to 200.
+pub const ROUNDED: [u8; 12] = *b"\x02\x7D\x20\x14\x00\x01\x00\x01\x00\x14\x00\x28";
+
+// Period 1001/10, frames 72000 to 72001 with 100 and 0: the ticks 7207200 to 7207300.
+pub const FRAME_72000: [u8; 12] = *b"\x02\x7D\x20\x15\x19\x40\x8C\xA0\x80\xC8\x00\x00";
+
+// Period 1/1, window 0 to 131071 with 4096 and 1.
+pub const WIDE: [u8; 12] = *b"\x02\x00\x20\x02\x00\x00\xFF\xFF\xA0\x00\x00\x08";
+
+// A header that says 0 tasks.
+pub const COUNT_0: [u8; 4] = *b"\x00\x0C\x80\x02";
+
+// A header that says 65 tasks.
+pub const COUNT_65: [u8; 4] = *b"\x82\x0C\x80\x02";
+
+// P4 and a byte more.
+pub const ONE_BYTE_MORE: [u8; 13] = *b"\x02\x0C\x80\x02\x00\x00\x00\x01\x00\xC8\x01\x90\x00";
+
+// P4 with the last padding bit set.
+pub const PADDING: [u8; 12] = *b"\x02\x0C\x80\x02\x00\x00\x00\x01\x00\xC8\x01\x91";
+
+// P4's task with the period 0/1.
+pub const P_ZERO: [u8; 12] = *b"\x02\x00\x00\x02\x00\x00\x00\x01\x00\xC8\x01\x90";
+
+// Windows 0 to 10, 6 to 4, 9 to 8.
+pub const REVERSED: [u8; 28] =
+    *b"\x06\x00\x20\x02\x00\x00\x00\x05\x00\x02\x00\x08\x00\x18\x00\x08\x00\x08\x00\x20\x00\x90\x00\x40\x00\x20\x00\x80";
+
+// Windows 2 to 6, 0 to 10, 4 to 8.
+pub const CROSSING: [u8; 28] =
+    *b"\x06\x00\x20\x02\x00\x02\x00\x03\x00\x02\x00\x08\x00\x00\x00\x14\x00\x08\x00\x20\x00\x40\x00\x40\x00\x20\x00\x80";
