@@ -34,9 +34,6 @@ pub const FRAME_72000: [u8; 12] = *b"\x02\x7D\x20\x15\x19\x40\x8C\xA0\x80\xC8\x0
 // Period 1/1, window 0 to 131071 with 4096 and 1.
 pub const WIDE: [u8; 12] = *b"\x02\x00\x20\x02\x00\x00\xFF\xFF\xA0\x00\x00\x08";
 
-// A header that says 0 tasks.
-pub const COUNT_0: [u8; 4] = *b"\x00\x0C\x80\x02";
-
 // A header that says 65 tasks.
 pub const COUNT_65: [u8; 4] = *b"\x82\x0C\x80\x02";
 

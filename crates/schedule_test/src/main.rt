@@ -1,7 +1,7 @@
 // Judges plans and counts busy ticks and prints what each call answers.
 //
-// A line has the call, what it was given, and the number and place of the answer. Judging then prints the verdict and the counts kept
-// and discarded, and the busy count its sum.
+// A line has the call, the case, and the number and place of the answer. Judging then prints the verdict and the counts kept and
+// discarded, and the busy count its sum.
 mod counts;
 mod fair;
 mod files;

@@ -17,11 +17,3 @@ pub const P8_STARTS: [u32; 5] = [2, 4, 6, 7, 8];
 pub const P8_ENDS: [u32; 5] = [4, 6, 7, 8, 10];
 
 pub const P8_TASKS: [u32; 5] = [0, 2, 0, 1, 0];
-
-// The first `count` numbers of a list, or all of one that is shorter.
-pub fn first(list: &[u32], count: usize) -> &[u32] {
-    if count <= list.len() {
-        return &list[0..count];
-    }
-    list
-}

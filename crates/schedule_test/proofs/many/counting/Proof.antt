@@ -1,14 +1,14 @@
--- `schedule_test::many::rising` is safe and ends: the measure is the number of places left.
+-- `schedule_test::many::counting` is safe and ends: the measure is the number of places left.
 use Prim.Native.Nat.{_-_}
 use borrow.Author.Needs.{needs}
-use Rattle.schedule_test.proofs.many.rising.Statement.{statement}
-use Rattle.schedule_test.proofs.many.rising.Tie as tie
+use Rattle.schedule_test.proofs.many.counting.Statement.{statement}
+use Rattle.schedule_test.proofs.many.counting.Tie as tie
 
 abbrev Inv-loop : tie.InvT-loop
-Inv-loop least list₀ i₀ list i = Unit
+Inv-loop first list₀ i₀ list i = Unit
 
 abbrev μ-loop : tie.MeasureT-loop
-μ-loop least list₀ i₀ list i = 4097 - i
+μ-loop first list₀ i₀ list i = 4097 - i
 
 loop-holds : tie.Need-loop-holds Inv-loop μ-loop
 loop-holds c = search needs
@@ -37,8 +37,8 @@ loop-again c = search needs
 returns : tie.Need-returns Inv-loop μ-loop
 returns c = search needs
 
-pub rising-spec : {M : Type 1} → statement M
-rising-spec =
+pub counting-spec : {M : Type 1} → statement M
+counting-spec =
     tie.close
     (tie.spec
     Inv-loop
