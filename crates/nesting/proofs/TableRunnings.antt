@@ -16,7 +16,7 @@ use Rattle.schedule.specs.declared.Job.{Job}
 use Rattle.schedule.specs.Jobs.{jobAt, jobsOf, counts}
 use Rattle.schedule.specs.Ticks.{Owner, one, countBelow}
 use Rattle.schedule.specs.Runnings.{All, Any, Holds, Gets, got, Running, discards}
-use Rattle.schedule.proofs.JudgeLaws.{all-places, any-places, discards-places}
+use Rattle.schedule.proofs.JudgeLaws.{all-members, all-places, any-places, discards-places}
 use Rattle.choice.specs.Choice.{fits, keepNone, chosen, discarded}
 use Rattle.placement.specs.Placing.{placed}
 use Rattle.placement.specs.Outcomes.{Fewest}
@@ -58,12 +58,6 @@ order-all : (t : Table) (P : Job → Type 0) (n : ℕ) (js : List ℕ) → All (
 order-all t P n [] m h = tt
 order-all t P n (j ∷ js) m h = (h j (m .0), order-all t P n js (m .1) h)
 
--- what holds of all jobs of a list holds of one that is a member
-member-all : (P : Job → Type 0) (job : Job) (jobs : List Job) → All P jobs → Any (λ other. other ≡ job) jobs → P job
-member-all P job [] a h = absurd h
-member-all P job (first ∷ jobs) a (inl e) = subst P e (a .0)
-member-all P job (first ∷ jobs) a (inr h) = member-all P job jobs (a .1) h
-
 -- A running of a table's jobs in one order is one in the other.
 pub running-order : (t : Table) (owner : Owner) → Running (jobsOf t) owner ↔ Running (jobsOutermostFirst t) owner
 unfolding jobsOf jobsOutermostFirst
@@ -81,7 +75,7 @@ running-order t owner = (
             let m = any-order t (Holds tick i) (t .count) (outermostFirst t (t .count)) (order-below t (t .count)) (r .inside tick i e) in
             any-places (Holds tick i) (jobAt t) (t .count) .1 (m .0, m .1, m .2);
         gets = all-places (Gets owner) (jobAt t) (t .count) .1
-            (λ k l. member-all (Gets owner) (jobAt t k) (map (jobAt t) (outermostFirst t (t .count))) (r .gets) (order-any t (λ other. other ≡ jobAt t k) (t .count) k l refl));
+            (λ k l. all-members (Gets owner) (map (jobAt t) (outermostFirst t (t .count))) .0 (r .gets) (jobAt t k) (order-any t (λ other. other ≡ jobAt t k) (t .count) k l refl));
       },
 )
 
