@@ -20,3 +20,7 @@ maxPeriod = 4_095
 -- the greatest length of a mandatory or an optional part in ticks
 abbrev pub maxTicks : ℕ
 maxTicks = 16_383
+
+-- the greatest tick that a frame can mean: the last frame at the longest period
+abbrev pub lastTick : ℕ
+lastTick = 536_735_745

@@ -23,7 +23,8 @@ use Rattle.schedule.specs.declared.Job.{Job}
 use Rattle.schedule.specs.declared.Judged.{Judged}
 use Rattle.schedule.specs.Jobs.{noJob, jobAt, workOf, counts}
 use Rattle.schedule.specs.Ticks.{countBelow}
-use Rattle.schedule.specs.Runs.{Run, badColumns, runsOf}
+use Rattle.schedule.specs.declared.Run.{Run}
+use Rattle.schedule.specs.Runs.{badColumns, runsOf}
 use Rattle.schedule.specs.Judging.{noneEmpty, followFrom, inOrder, knownTasks, inWindows, totalOf, exactTotals, verdict, keptCount, discardedCount, firstBadMark, judgeDeclined, judgeTable, judged, Fair}
 use Rattle.schedule.proofs.TickLaws.{count-same}
 use Rattle.schedule.proofs.JudgeLaws.{judge-sound}

@@ -15,7 +15,7 @@ use Rattle.base.specs.Places.{placesFrom, places}
 use Rattle.base.proofs.TestLaws.{and-true, and-left, and-right, same-test}
 use Rattle.base.proofs.PlaceLaws.{left-start, left-step, left-end}
 use Rattle.schedule.specs.declared.Job.{Job}
-use Rattle.schedule.specs.Runs.{Run}
+use Rattle.schedule.specs.declared.Run.{Run}
 use Rattle.schedule.specs.Judging.{noneEmpty, followFrom, knownTasks, inWindows, totalOf}
 use Rattle.judging.specs.Passing.{passes, runFits}
 

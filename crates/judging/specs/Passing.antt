@@ -5,7 +5,7 @@ use mathlib.Core.Bool.{Bool}
 use lib.Dec.{leb, ltb}
 use Rattle.base.specs.Tests.{and}
 use Rattle.schedule.specs.declared.Job.{Job}
-use Rattle.schedule.specs.Runs.{Run}
+use Rattle.schedule.specs.declared.Run.{Run}
 use Rattle.schedule.specs.Judging.{noneEmpty, followFrom, knownTasks, inWindows, exactTotals}
 
 -- of runs of which the first starts at tick `from` or later

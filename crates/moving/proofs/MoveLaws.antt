@@ -29,7 +29,7 @@ unfolding firstOutside
 none-outside shift t k e l = before (λ k. movedOutside shift (taskAt t k)) (t .count) k (omega arith)
 
 -- the constructor's table of the moved tasks is the moved table
-pub moved-filled : (shift : ℤ) (t : Table) (i : ℕ) (tasks : List Task) → t .count ≤ i → Filled noTask (λ k. movedTask shift (taskAt t k)) (t .count) i tasks
+pub moved-filled : (shift : ℤ) (t : Table) (i : ℕ) (tasks : List Task) → t .count ≤ i → Filled noTask (λ k. movedTask shift (taskAt t k)) maxTasks (t .count) i tasks
     → tableOf (t .count) (t .p) (t .q) (λ k. getD tasks k noTask) ≡ movedTable shift t
 unfolding movedTable
 moved-filled shift t i tasks l f =

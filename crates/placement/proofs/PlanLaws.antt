@@ -8,7 +8,8 @@ use Rattle.schedule.specs.declared.Job.{Job}
 use Rattle.schedule.specs.Jobs.{workOf}
 use Rattle.schedule.specs.Ticks.{Owner, one}
 use Rattle.schedule.specs.Runnings.{All, got}
-use Rattle.schedule.specs.Runs.{Run, ownerOf, Together}
+use Rattle.schedule.specs.declared.Run.{Run}
+use Rattle.schedule.specs.Runs.{ownerOf, Together}
 use Rattle.choice.specs.Choice.{fits}
 use Rattle.choice.proofs.FitLaws.{work-mark}
 use Rattle.placement.specs.Nesting.{Chain}

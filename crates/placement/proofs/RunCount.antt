@@ -11,7 +11,7 @@ use borrow.Author.Tests.{ltb-true, lt-ltb, le-ltb}
 use Rattle.base.proofs.TestLaws.{cases}
 use Rattle.schedule.specs.declared.Job.{Job}
 use Rattle.schedule.specs.Ticks.{one}
-use Rattle.schedule.specs.Runs.{Run}
+use Rattle.schedule.specs.declared.Run.{Run}
 use Rattle.choice.specs.Choice.{workWith}
 use Rattle.placement.specs.Filling.{addRun, fill, filled}
 

@@ -13,7 +13,8 @@ use Rattle.base.proofs.TestLaws.{cases, and-true, and-left, and-right}
 use Rattle.schedule.specs.declared.Job.{Job}
 use Rattle.schedule.specs.Ticks.{Owner}
 use Rattle.schedule.specs.Runnings.{All, Running}
-use Rattle.schedule.specs.Runs.{Run, ownerOf}
+use Rattle.schedule.specs.declared.Run.{Run}
+use Rattle.schedule.specs.Runs.{ownerOf}
 use Rattle.schedule.specs.Judging.{noneEmpty, followFrom, inOrder}
 use Rattle.schedule.proofs.RunLaws.{in-holds, after-holds, free-before}
 use Rattle.choice.specs.Choice.{fits}

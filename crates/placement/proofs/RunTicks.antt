@@ -15,7 +15,7 @@ use Rattle.base.proofs.TestLaws.{cases, both-absurd, same-test}
 use Rattle.schedule.specs.declared.Job.{Job}
 use Rattle.schedule.specs.Ticks.{Owner, countBelow}
 use Rattle.schedule.specs.Runnings.{All, Any, Holds}
-use Rattle.schedule.specs.Runs.{Run}
+use Rattle.schedule.specs.declared.Run.{Run}
 use Rattle.schedule.proofs.TickLaws.{count-grows}
 use Rattle.schedule.proofs.RunLaws.{owner-cases}
 use Rattle.choice.specs.Choice.{workWith, fits}

@@ -4,7 +4,7 @@ use Prim.Native.Nat.{ℕ, zero, suc, _-_, min}
 use mathlib.Core.List.{List, [], _∷_}
 use mathlib.Core.Bool.{Bool}
 use Rattle.schedule.specs.declared.Job.{Job}
-use Rattle.schedule.specs.Runs.{Run}
+use Rattle.schedule.specs.declared.Run.{Run}
 use Rattle.choice.specs.Choice.{workWith}
 
 -- one more run of task i, of n ticks that end at `top`; no run where n is 0

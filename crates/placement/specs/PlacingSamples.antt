@@ -3,7 +3,7 @@ use Prim.Native.Nat.{ℕ}
 use mathlib.Core.Path.{_≡_}
 use mathlib.Core.List.{List, [], _∷_}
 use Rattle.schedule.specs.declared.Job.{Job}
-use Rattle.schedule.specs.Runs.{Run}
+use Rattle.schedule.specs.declared.Run.{Run}
 use Rattle.choice.specs.Choice.{chosen}
 use Rattle.choice.specs.ChoiceSamples.{job, p8Jobs, p10Jobs}
 use Rattle.placement.specs.Placing.{placed, stretches}

@@ -7,7 +7,8 @@ use native.Mathlib.Decide.{decLe}
 use lib.ListN.{length}
 use Rattle.schedule.specs.Ticks.{countIn}
 use Rattle.schedule.specs.Runnings.{All}
-use Rattle.schedule.specs.Runs.{Run, holds}
+use Rattle.schedule.specs.declared.Run.{Run}
+use Rattle.schedule.specs.Runs.{holds}
 use Rattle.schedule.specs.BusyCount.{shared, busySum}
 use Rattle.schedule.proofs.RunLaws.{run-count}
 

@@ -24,7 +24,8 @@ use Rattle.schedule.specs.declared.Job.{Job}
 use Rattle.schedule.specs.Jobs.{jobOf, jobAt, jobsOf, workOf, counts}
 use Rattle.schedule.specs.Ticks.{Owner, one, countBelow}
 use Rattle.schedule.specs.Runnings.{All, Any, Holds, got, Gets, discards}
-use Rattle.schedule.specs.Runs.{Run, holds, ownerOf, Together, badColumns, runsOf}
+use Rattle.schedule.specs.declared.Run.{Run}
+use Rattle.schedule.specs.Runs.{holds, ownerOf, Together, badColumns, runsOf}
 use Rattle.schedule.specs.Judging.{noneEmpty, inOrder, knownTasks, inWindows, totalOf, exactTotals, verdict, discardedCount, firstBadMark, judgeTable, judged, Fair}
 use Rattle.schedule.proofs.RunLaws.{in-holds, holds-in, first-nonempty, rest-nonempty, owner-is-run, owner-has-run, run-ticks}
 

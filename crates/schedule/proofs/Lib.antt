@@ -1,3 +1,4 @@
+pub mod JobLaws
 pub mod TickLaws
 pub mod RunLaws
 pub mod JudgeLaws

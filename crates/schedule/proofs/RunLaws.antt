@@ -12,7 +12,8 @@ use Rattle.base.specs.Tests.{pick, and}
 use Rattle.base.proofs.TestLaws.{cases, and-left, and-right}
 use Rattle.schedule.specs.Ticks.{isTask, one, countBelow, ticksOf}
 use Rattle.schedule.specs.Runnings.{All, Any}
-use Rattle.schedule.specs.Runs.{Run, holds, ownerOf}
+use Rattle.schedule.specs.declared.Run.{Run}
+use Rattle.schedule.specs.Runs.{holds, ownerOf}
 use Rattle.schedule.specs.Judging.{noneEmpty, followFrom, totalOf}
 use Rattle.schedule.proofs.TickLaws.{count-none, count-split}
 

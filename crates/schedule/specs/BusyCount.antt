@@ -4,7 +4,8 @@ use mathlib.Core.List.{List, [], _∷_}
 use mathlib.Core.Bool.{Bool}
 use Rattle.base.specs.Tests.{pick}
 use Rattle.schedule.specs.declared.Busy.{Busy}
-use Rattle.schedule.specs.Runs.{Run, badColumns, runsOf}
+use Rattle.schedule.specs.declared.Run.{Run}
+use Rattle.schedule.specs.Runs.{badColumns, runsOf}
 
 -- the ticks that a run shares with the interval: from the later start to the earlier end, and none where that is not after the start
 unfoldable pub shared : ℕ → ℕ → Run → ℕ

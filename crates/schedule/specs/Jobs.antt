@@ -1,8 +1,9 @@
 -- Jobs: the tasks of an accepted table in ticks. This is the only definition above the frame clock that knows frames or periods.
-use Prim.Native.Nat.{ℕ, _+_}
+use Prim.Native.Nat.{ℕ, _+_, _≤_}
 use mathlib.Core.List.{List}
 use lib.Dec.{ltb, eqb}
 use mathlib.Core.Bool.{Bool}
+use Rattle.base.specs.Limits.{maxTicks, lastTick}
 use Rattle.base.specs.Tests.{pick}
 use Rattle.base.specs.Places.{places}
 use Rattle.clock.specs.Clock.{releaseTick, deadlineTick}
@@ -41,3 +42,10 @@ workOf job mark = job .mandatory + pick (eqb mark 1) (job .optional) 0
 -- an optional part counts where it has ticks
 abbrev pub counts : Job → Bool
 counts job = ltb 0 (job .optional)
+
+-- a job within the limits of an accepted table: the theorem `job-bounded` says that each of its jobs is
+pub record Bounded (job : Job) : Type 0 where
+  pub release : job .release ≤ lastTick
+  pub deadline : job .deadline ≤ lastTick
+  pub mandatory : job .mandatory ≤ maxTicks
+  pub optional : job .optional ≤ maxTicks

@@ -14,7 +14,8 @@ use Rattle.schedule.specs.declared.Job.{Job}
 use Rattle.schedule.specs.declared.Judged.{Judged}
 use Rattle.schedule.specs.Jobs.{jobAt, jobsOf, workOf, counts}
 use Rattle.schedule.specs.Ticks.{countBelow}
-use Rattle.schedule.specs.Runs.{Run, Together, badColumns, runsOf}
+use Rattle.schedule.specs.declared.Run.{Run}
+use Rattle.schedule.specs.Runs.{Together, badColumns, runsOf}
 
 -- The five conditions of a yes, for the jobs of n positions.
 

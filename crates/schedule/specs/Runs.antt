@@ -10,15 +10,14 @@ use Rattle.base.specs.Limits.{maxRuns}
 use Rattle.base.specs.Tests.{pick, and, or}
 use Rattle.base.specs.Places.{places}
 use Rattle.schedule.specs.declared.Job.{Job}
+use Rattle.schedule.specs.declared.Run.{Run}
 use Rattle.schedule.specs.Jobs.{workOf}
 use Rattle.schedule.specs.Ticks.{Owner}
 use Rattle.schedule.specs.Runnings.{All, got, Running}
 
--- a run: its first tick, the tick after its last, and the task's position
-pub record Run : Type 0 where
-  pub start : ℕ
-  pub end : ℕ
-  pub task : ℕ
+-- the run of which every number is 0
+abbrev pub noRun : Run
+noRun = record { start = 0; end = 0; task = 0 }
 
 -- more than 4,096 runs, or run columns of unequal length
 unfoldable pub badColumns : List ℕ → List ℕ → List ℕ → Bool

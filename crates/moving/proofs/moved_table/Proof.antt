@@ -7,6 +7,7 @@ use borrow.Author.Needs.{needs}
 use lib.IntN.{ℤ}
 use mir.Syntax.{w32}
 use mir.Val.{toZ}
+use Rattle.base.specs.Limits.{maxTasks}
 use Rattle.base.proofs.LowestLaws.{before}
 use Rattle.table.specs.Tables.{noTask, taskAt}
 use Rattle.table.specs.Moving.{movedTask, movedOutside, firstOutside, movedTable}
@@ -18,7 +19,7 @@ use Rattle.moving.proofs.moved_table.Tie as tie
 
 abbrev Inv-loop : tie.InvT-loop
 Inv-loop shift table count tasks₀ i₀ tasks i =
-    (i ≤ table .count) × Filled noTask (λ k. movedTask (toZ w32 shift) (taskAt table k)) (table .count) i tasks
+    (i ≤ table .count) × Filled noTask (λ k. movedTask (toZ w32 shift) (taskAt table k)) maxTasks (table .count) i tasks
 
 abbrev μ-loop : tie.MeasureT-loop
 μ-loop shift table count tasks₀ i₀ tasks i = count - i
@@ -27,7 +28,7 @@ cast-count : tie.Need-cast-count Inv-loop μ-loop
 cast-count c = omega arith
 
 loop-holds : tie.Need-loop-holds Inv-loop μ-loop
-loop-holds c = (omega arith, filled-start _ _ _)
+loop-holds c = (omega arith, filled-start _ _ _ _)
 
 mul-task : tie.Need-mul-task Inv-loop μ-loop
 mul-task c = omega arith
@@ -57,7 +58,7 @@ loop-less c = omega arith
 loop-again : tie.Need-loop-again Inv-loop μ-loop
 unfolding taskAt
 loop-again c =
-    (omega arith, filled-set _ _ _ _ _ _ (omega arith) (omega arith) (c .moved-task .ensures) (c .before .before .before .loop .inv .1))
+    (omega arith, filled-set _ _ _ _ _ _ _ (omega arith) (omega arith) (c .moved-task .ensures) (c .before .before .before .loop .inv .1))
 
 new-requires : tie.Need-new-requires Inv-loop μ-loop
 new-requires c κs = search needs

@@ -5,19 +5,20 @@ use native.Mathlib.Omega.{arith}
 use Rattle.table.specs.Tables.{noTask}
 use Rattle.table.specs.Layout.{taskStart}
 use Rattle.table.specs.Reading.{taskFrom, taskIn}
+use Rattle.base.specs.Limits.{maxTasks}
 use Rattle.base.proofs.Filling.{Filled, filled-start, filled-set, filled-whole}
 use Rattle.reading.proofs.take_tasks.Statement.{statement}
 use Rattle.reading.proofs.take_tasks.Tie as tie
 
 abbrev Inv-loop : tie.InvT-loop
-Inv-loop file count tasks₀ places at₀ i₀ tasks at i = (i ≤ count) × (at .at ≡ taskStart i) × Filled noTask (taskIn file) count i tasks
+Inv-loop file count tasks₀ places at₀ i₀ tasks at i = (i ≤ count) × (at .at ≡ taskStart i) × Filled noTask (taskIn file) maxTasks count i tasks
 
 abbrev μ-loop : tie.MeasureT-loop
 μ-loop file count tasks₀ places at₀ i₀ tasks at i = count - i
 
 loop-holds : tie.Need-loop-holds Inv-loop μ-loop
 unfolding taskStart
-loop-holds c = (omega arith, omega arith, filled-start _ _ _)
+loop-holds c = (omega arith, omega arith, filled-start _ _ _ _)
 
 take-task-requires : tie.Need-take-task-requires Inv-loop μ-loop
 unfolding taskStart
@@ -43,11 +44,11 @@ loop-again c =
     let file = c .before .before .before .before .before .before .args .file .now in (
       omega arith,
       omega arith,
-      filled-set _ _ _ _ _ _ (omega arith) (omega arith) (taken .0 ∙ ap (λ (start : ℕ). taskFrom file start) (before .1)) (before .2),
+      filled-set _ _ _ _ _ _ _ (omega arith) (omega arith) (taken .0 ∙ ap (λ (start : ℕ). taskFrom file start) (before .1)) (before .2),
     )
 
 returns : tie.Need-returns Inv-loop μ-loop
-returns c = filled-whole _ _ _ _ _ (λ k a b. omega arith) (c .before .loop .inv .2)
+returns c = filled-whole _ _ _ _ _ _ (λ k a b. omega arith) (c .before .loop .inv .2)
 
 pub take-tasks-spec : {M : Type 1} → statement M
 take-tasks-spec =

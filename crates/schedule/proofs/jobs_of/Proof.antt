@@ -1,6 +1,7 @@
 -- `schedule::jobs_of` meets its contract. The loop's invariant: the places below `i` hold their jobs.
 use Prim.Native.Nat.{ℕ, _-_, _≤_}
 use native.Mathlib.Omega.{arith}
+use Rattle.base.specs.Limits.{maxTasks}
 use Rattle.base.proofs.Filling.{Filled, filled-start, filled-set, filled-whole}
 use Rattle.table.specs.Tables.{taskAt}
 use Rattle.schedule.specs.Jobs.{noJob, jobOf, jobAt}
@@ -8,7 +9,7 @@ use Rattle.schedule.proofs.jobs_of.Statement.{statement}
 use Rattle.schedule.proofs.jobs_of.Tie as tie
 
 abbrev Inv-loop : tie.InvT-loop
-Inv-loop table jobs₀ count i₀ jobs i = (i ≤ table .count) × Filled noJob (jobAt table) (table .count) i jobs
+Inv-loop table jobs₀ count i₀ jobs i = (i ≤ table .count) × Filled noJob (jobAt table) maxTasks (table .count) i jobs
 
 abbrev μ-loop : tie.MeasureT-loop
 μ-loop table jobs₀ count i₀ jobs i = count - i
@@ -17,7 +18,7 @@ cast-count : tie.Need-cast-count Inv-loop μ-loop
 cast-count c = omega arith
 
 loop-holds : tie.Need-loop-holds Inv-loop μ-loop
-loop-holds c = (omega arith, filled-start _ _ _)
+loop-holds c = (omega arith, filled-start _ _ _ _)
 
 mul-task : tie.Need-mul-task Inv-loop μ-loop
 mul-task c = omega arith
@@ -49,10 +50,10 @@ loop-less c = omega arith
 loop-again : tie.Need-loop-again Inv-loop μ-loop
 unfolding jobAt taskAt
 loop-again c =
-    (omega arith, filled-set _ _ _ _ _ _ (omega arith) (omega arith) (c .job-of .ensures) (c .before .before .before .loop .inv .1))
+    (omega arith, filled-set _ _ _ _ _ _ _ (omega arith) (omega arith) (c .job-of .ensures) (c .before .before .before .loop .inv .1))
 
 returns : tie.Need-returns Inv-loop μ-loop
-returns c = filled-whole _ _ _ _ _ (λ k a b. omega arith) (c .before .loop .inv .1)
+returns c = filled-whole _ _ _ _ _ _ (λ k a b. omega arith) (c .before .loop .inv .1)
 
 pub jobs-of-spec : {M : Type 1} → statement M
 jobs-of-spec =

@@ -7,6 +7,7 @@ use native.Mathlib.Omega.{arith}
 use borrow.Author.Needs.{needs}
 use lib.Dec.{ltb}
 use lib.ListN.{length, getD, set, length-set}
+use Rattle.base.specs.Limits.{maxTasks}
 use Rattle.base.specs.Tests.{pick, and}
 use Rattle.table.specs.declared.Task.{Task}
 use Rattle.table.specs.Tables.{noTask, tableOf}
@@ -17,13 +18,13 @@ use Rattle.table.proofs.Table.new.Reads as reads
 use Rattle.table.proofs.Table.new.Lts as lts
 
 abbrev Inv-loop : tie.InvT-loop
-Inv-loop count p q tasks kept₀ places i₀ kept i = (i ≤ 64) × Filled noTask (λ k. getD tasks k noTask) count i kept
+Inv-loop count p q tasks kept₀ places i₀ kept i = (i ≤ 64) × Filled noTask (λ k. getD tasks k noTask) maxTasks count i kept
 
 abbrev μ-loop : tie.MeasureT-loop
 μ-loop count p q tasks kept₀ places i₀ kept i = 64 - i
 
 loop-holds : tie.Need-loop-holds Inv-loop μ-loop
-loop-holds c = (omega arith, filled-start _ _ _)
+loop-holds c = (omega arith, filled-start _ _ _ _)
 
 mul-kept : tie.Need-mul-kept Inv-loop μ-loop
 mul-kept c = omega arith
@@ -47,8 +48,8 @@ loop-again : tie.Need-loop-again Inv-loop μ-loop
 loop-again c = (
   omega arith,
   ⊎-elim
-      (λ w. rw (w .2) (filled-set _ _ _ _ _ _ (omega arith) (omega arith) refl (c .before .before .loop .inv .1)))
-      (λ w. rw (w .1) (filled-skip _ _ _ _ _ (omega arith) (c .before .before .loop .inv .1)))
+      (λ w. rw (w .2) (filled-set _ _ _ _ _ _ _ (omega arith) (omega arith) refl (c .before .before .loop .inv .1)))
+      (λ w. rw (w .1) (filled-skip _ _ _ _ _ _ (omega arith) (c .before .before .loop .inv .1)))
       (c .if1 .came),
 )
 
@@ -57,7 +58,7 @@ unfolding tableOf
 returns c =
     ap
     (λ (kept : List Task). record { count = c .before .before .args .count; p = c .before .before .args .p; q = c .before .before .args .q; tasks = kept })
-    (filled-whole _ _ _ _ _ (λ k a b. omega arith) (c .before .loop .inv .1))
+    (filled-whole _ _ _ _ _ _ (λ k a b. omega arith) (c .before .loop .inv .1))
 
 pub new-spec : {M : Type 1} → statement M
 new-spec =

@@ -1,0 +1,41 @@
+-- Laws of the jobs of a table.
+use Prim.Native.Nat.{ℕ, _+_, _*_, _≤_, _<_, _^_}
+use mathlib.Core.Path.{_≡_}
+use native.Mathlib.Omega.{arith}
+use native.Mathlib.Nat.{mul-le-mul, le-refl, le-trans, div-le-self}
+use Rattle.base.specs.Limits.{lastFrame, maxPeriod, maxTicks, lastTick}
+use Rattle.clock.specs.Clock.{releaseTick, deadlineTick, LegalPeriod}
+use Rattle.clock.proofs.ClockLaws.{release-least, deadline-not-after}
+use Rattle.table.specs.declared.Task.{Task}
+use Rattle.table.specs.declared.Table.{Table}
+use Rattle.table.specs.Tables.{taskAt}
+use Rattle.table.specs.Layout.{badPeriod}
+use Rattle.table.specs.Writing.{Legal}
+use Rattle.table.proofs.FileLaws.{narrow-known, Narrow, period-known}
+use Rattle.schedule.specs.Jobs.{jobOf, jobAt, Bounded}
+
+-- the tick of a frame is at most the greatest
+frame-ticks : (f p : ℕ) → f ≤ lastFrame → p ≤ maxPeriod → f * p ≤ lastTick
+frame-ticks f p a b = omega (arith, mul-le-mul a b)
+
+release-bounded : (p q f : ℕ) → 0 < q → f ≤ lastFrame → p ≤ maxPeriod → releaseTick p q f ≤ lastTick
+release-bounded p q f z a b =
+    let more : f * p * 1 ≤ f * p * q = mul-le-mul (le-refl (f * p)) z in
+    le-trans (release-least p q f (f * p) z (omega (arith, more))) (frame-ticks f p a b)
+
+deadline-bounded : (p q f : ℕ) → 0 < q → f ≤ lastFrame → p ≤ maxPeriod → deadlineTick p q f ≤ lastTick
+unfolding deadlineTick
+deadline-bounded p q f z a b = le-trans (div-le-self (f * p) q) (frame-ticks f p a b)
+
+-- each job of an accepted table is within its limits
+pub job-bounded : (t : Table) → Legal t → (k : ℕ) → k < t .count → Bounded (jobAt t k)
+unfolding jobAt jobOf
+job-bounded t legal k l =
+    let task = narrow-known (taskAt t k) (legal .narrow k l) in
+    let period = period-known (t .p) (t .q) (legal .timed) in
+    record {
+      release = release-bounded (t .p) (t .q) (taskAt t k .release) (period .0) (omega (arith, task .release)) (period .2);
+      deadline = deadline-bounded (t .p) (t .q) (taskAt t k .deadline) (period .0) (omega (arith, task .deadline)) (period .2);
+      mandatory = omega (arith, task .mandatory);
+      optional = omega (arith, task .optional);
+    }
