@@ -2,3 +2,4 @@ pub mod Limits
 pub mod Tests
 pub mod Lowest
 pub mod Places
+pub mod Lent

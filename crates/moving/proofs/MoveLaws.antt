@@ -18,7 +18,8 @@ use Rattle.table.specs.Tables.{noTask, taskAt, tableOf}
 use Rattle.table.specs.Layout.{fileLength}
 use Rattle.table.specs.Answers.{numberOf, placeOf, isAccepted, declined, wrote}
 use Rattle.table.specs.Reading.{tableIn, readAnswer}
-use Rattle.table.specs.Writing.{fileOf, contentAfter}
+use Rattle.base.specs.Lent.{contentAfter}
+use Rattle.table.specs.Writing.{fileOf}
 use Rattle.table.specs.Moving.{movedTask, movedOutside, firstOutside, movedTable, moveReply, movedOver}
 use Rattle.base.proofs.Filling.{Filled}
 use Rattle.table.proofs.FileLaws.{tableOf-same, fileOf-length}

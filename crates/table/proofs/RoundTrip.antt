@@ -26,7 +26,8 @@ use Rattle.table.specs.Layout.{countWidth, periodWidth, frameWidth, tick
 use Rattle.table.specs.Answers.{numberOf, placeOf, isAccepted, declined, wrote}
 use Rattle.table.specs.Windows.{reversed, contains, nested, windowAnswer}
 use Rattle.table.specs.Reading.{countIn, pIn, qIn, taskFrom, taskIn, tableIn, paddingSet, headAnswer, readAnswer, reading}
-use Rattle.table.specs.Writing.{Legal, taskBits, tasksBits, headerBits, tableBits, fileOf, tooWide, writeReply, contentAfter, writtenOver}
+use Rattle.table.specs.Writing.{Legal, taskBits, tasksBits, headerBits, tableBits, fileOf, tooWide, writeReply, writtenOver}
+use Rattle.base.specs.Lent.{contentAfter}
 use Rattle.table.specs.Moving.{movedFrame, outside, frameOf, movedTask, movedOutside, firstOutside, movedTable, moveReply}
 use Rattle.table.proofs.FileLaws.{
   taskBits-length,

@@ -5,6 +5,7 @@ use mathlib.Core.Bool.{Bool, true, false}
 use lib.Dec.{ltb}
 use lib.ListN.{length}
 use lib.IntN.{ℤ, pos, negsuc, _+ℤ_}
+use Rattle.base.specs.Lent.{contentAfter}
 use Rattle.base.specs.Limits.{lastFrame}
 use Rattle.base.specs.Tests.{pick, or}
 use Rattle.base.specs.Lowest.{lowest}
@@ -14,7 +15,7 @@ use Rattle.table.specs.declared.Written.{Written}
 use Rattle.table.specs.Tables.{taskAt, tableOf}
 use Rattle.table.specs.Answers.{numberOf, placeOf, isAccepted, declined, wrote}
 use Rattle.table.specs.Reading.{readAnswer, tableIn}
-use Rattle.table.specs.Writing.{fileOf, contentAfter}
+use Rattle.table.specs.Writing.{fileOf}
 
 -- a frame moved by a number of frames, which may lie below 0
 abbrev pub movedFrame : ℤ → ℕ → ℤ
@@ -62,4 +63,4 @@ moveReply s shift room =
 
 -- what a lent list holds after moving a file: the file of the moved table, and then what stood there beyond it
 unfoldable pub movedOver : List ℕ → ℤ → List ℕ → List ℕ
-movedOver s shift out = contentAfter (moveReply s shift (length out)) (fileOf (movedTable shift (tableIn s))) out
+movedOver s shift out = contentAfter (moveReply s shift (length out) .number) (fileOf (movedTable shift (tableIn s))) out

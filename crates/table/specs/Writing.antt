@@ -3,10 +3,11 @@ use Prim.Native.Nat.{ℕ, zero, suc, _+_, _^_, _<_}
 use mathlib.Core.Path.{_≡_}
 use mathlib.Core.List.{List, [], _++_}
 use mathlib.Core.Bool.{Bool, true, false}
-use lib.Dec.{ltb, leb, eqb}
-use lib.ListN.{length, drop}
+use lib.Dec.{ltb, leb}
+use lib.ListN.{length}
 use Rattle.base.specs.Tests.{pick, or}
 use Rattle.base.specs.Lowest.{lowest}
+use Rattle.base.specs.Lent.{contentAfter}
 use Rattle.bits.specs.Bits.{bitsOf, pack}
 use Rattle.table.specs.declared.Task.{Task}
 use Rattle.table.specs.declared.Table.{Table}
@@ -65,10 +66,6 @@ writeReply t room =
     (pick (ltb room (fileLength (t .count))) (declined 9 0) (wrote (fileLength (t .count))))
     (declined (numberOf (windowAnswer t)) (placeOf (windowAnswer t))))))
 
--- what a lent list holds after a call that replied so: the file and then what stood there beyond it; on a refusal what it held
-unfoldable pub contentAfter : Written → List ℕ → List ℕ → List ℕ
-contentAfter reply file out = pick (eqb (reply .number) 0) (file ++ drop (length file) out) out
-
 -- what a lent list holds after writing
 unfoldable pub writtenOver : Table → List ℕ → List ℕ
-writtenOver t out = contentAfter (writeReply t (length out)) (fileOf t) out
+writtenOver t out = contentAfter (writeReply t (length out) .number) (fileOf t) out

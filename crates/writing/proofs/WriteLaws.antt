@@ -14,7 +14,8 @@ use Rattle.table.specs.Tables.{noTask, taskAt, tableOf}
 use Rattle.table.specs.Layout.{fileLength, badCount, badPeriod}
 use Rattle.table.specs.Answers.{numberOf, placeOf, isAccepted, declined, wrote}
 use Rattle.table.specs.Windows.{windowAnswer}
-use Rattle.table.specs.Writing.{firstTooWide, fileOf, writeReply, contentAfter, writtenOver}
+use Rattle.table.specs.Writing.{firstTooWide, fileOf, writeReply, writtenOver}
+use Rattle.base.specs.Lent.{contentAfter}
 use Rattle.table.proofs.FileLaws.{fileOf-length, fileOf-same, tableOf-tasks}
 
 -- a refusal leaves the list as it was
