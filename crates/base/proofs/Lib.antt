@@ -2,3 +2,4 @@ pub mod TestLaws
 pub mod LowestLaws
 pub mod PlaceLaws
 pub mod Filling
+pub mod Storing

@@ -1,19 +1,21 @@
 -- Laws of lists that are given place by place.
 use Prim.Native.Nat.{ℕ, zero, suc, _+_, _-_, _≤_, _<_}
 use mathlib.Core.Path.{_≡_, refl, sym, ap}
-use mathlib.Core.List.{List, [], _∷_}
+use mathlib.Core.List.{List, [], _∷_, _++_, reverse, reverse-append}
+use native.Mathlib.Nat.{add-zero}
 use native.Mathlib.Omega.{arith}
 use native.Mathlib.Numerals.{add-one}
 use lib.ListN.{length, getD, take, length-take}
 use lib.Seq.{ext-getD, getD-take}
 use Rattle.base.specs.Places.{placesFrom, places, firstPlaces}
 
-from-length : {A : Type 0} (at : ℕ → A) (i n : ℕ) → length (placesFrom at i n) ≡ n
+-- there are as many places as asked for, from any place on
+pub from-length : {A : Type 0} (at : ℕ → A) (i n : ℕ) → length (placesFrom at i n) ≡ n
 unfolding placesFrom
 from-length at i zero = refl
 from-length at i (suc n) = ap suc (from-length at (suc i) n)
 
--- there are as many places as asked for
+-- and from the first
 pub places-length : {A : Type 0} (at : ℕ → A) (n : ℕ) → length (places at n) ≡ n
 unfolding places
 places-length at n = from-length at 0 n
@@ -28,6 +30,22 @@ from-at at i (suc n) (suc k) d h = let e : suc i + k ≡ i + suc k = omega arith
 pub places-at : {A : Type 0} (at : ℕ → A) (n k : ℕ) (d : A) → k < n → getD (places at n) k d ≡ at k
 unfolding places
 places-at at n k d h = let e : 0 + k ≡ k = omega arith in rw (from-at at 0 n k d h) (ap at e)
+
+from-last : {A : Type 0} (at : ℕ → A) (i n : ℕ) → placesFrom at i (suc n) ≡ placesFrom at i n ++ (at (i + n) ∷ [])
+unfolding placesFrom
+from-last at i zero = rw (add-zero i)
+from-last at i (suc n) =
+    let e : i + suc n ≡ suc i + n = omega arith in
+    rw (e, ← from-last at (suc i) n)
+
+-- one place more is the last
+pub places-last : {A : Type 0} (at : ℕ → A) (n : ℕ) → places at (suc n) ≡ places at n ++ (at n ∷ [])
+unfolding places
+places-last at n = let e : 0 + n ≡ n = omega arith in rw e at (from-last at 0 n)
+
+-- and comes first where they are turned round
+pub reverse-places : {A : Type 0} (at : ℕ → A) (n : ℕ) → reverse (places at (suc n)) ≡ at n ∷ reverse (places at n)
+reverse-places at n = rw (places-last at n, reverse-append (places at n) (at n ∷ []))
 
 -- a list of n elements is the list of its places
 pub places-is : {A : Type 0} (at : ℕ → A) (n : ℕ) (d : A) (l : List A) → length l ≡ n → ((k : ℕ) → k < n → getD l k d ≡ at k) → l ≡ places at n

@@ -3,4 +3,6 @@ pub mod OrderLaws
 pub mod FitLaws
 pub mod RowLaws
 pub mod ChoiceLaws
+pub mod BuildLaws
+pub mod BackLaws
 pub mod SampleLaws

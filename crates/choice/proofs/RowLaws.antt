@@ -7,8 +7,8 @@ use mathlib.Core.Bool.{Bool, true, false}
 use native.Mathlib.Nat.{zero-add, add-sub-cancel-left}
 use native.Mathlib.Omega.{arith}
 use lib.Dec.{leb, ltb, eqb}
-use borrow.Author.Tests.{leb-true, leb-false, ltb-true, ltb-false, eqb-true, eqb-false}
-use Rattle.base.proofs.TestLaws.{both-absurd}
+use borrow.Author.Tests.{leb-true, leb-false, ltb-true, ltb-false, eqb-true, eqb-false, le-leb, lt-leb, lt-ltb, le-ltb}
+use Rattle.base.proofs.TestLaws.{pick-true, pick-false, both-absurd}
 use Rattle.schedule.specs.declared.Job.{Job}
 use Rattle.choice.specs.Choice.{windowTicks, fits, keptTicks, discardMarks, keptWorth, ZeroKept}
 use Rattle.choice.specs.Rows.{mandatorySum, within, keeping, row, greatest, backtrack}
@@ -36,6 +36,33 @@ module _ (huge : ℕ) where
       picked (λ z. z ≡ y) (leb (mandatory + x) window) e
       (λ t q. omega (arith, leb-true)) (λ t q. absurd (omega arith))
 
+  -- what stands where the window has room, and where it has not
+  pub within-room : (mandatory window x : ℕ) → mandatory + x ≤ window → within huge mandatory window x ≡ x
+  unfolding within
+  within-room mandatory window x l = pick-true _ _ _ (le-leb (mandatory + x) window l)
+
+  pub within-over : (mandatory window x : ℕ) → window < mandatory + x → within huge mandatory window x ≡ huge
+  unfolding within
+  within-over mandatory window x l = pick-false _ _ _ (lt-leb (mandatory + x) window l)
+
+  -- the greatest where a row is below huge there, where it is not, and where there is none
+  pub greatest-found : (r : ℕ → ℕ) (n : ℕ) → 0 < n → r n < huge → greatest huge r n ≡ n
+  unfolding greatest
+  greatest-found r zero l t = absurd (omega arith)
+  greatest-found r (suc n) l t = pick-true _ _ _ (lt-ltb (r (suc n)) huge t)
+
+  pub greatest-passed : (r : ℕ → ℕ) (n : ℕ) → 0 < n → huge ≤ r n → greatest huge r (n - 1) ≡ greatest huge r n
+  unfolding greatest
+  greatest-passed r zero l t = absurd (omega arith)
+  greatest-passed r (suc n) l t =
+      let e : suc n - 1 ≡ n = omega arith in
+      rw (e, le-ltb (r (suc n)) huge t)
+
+  pub greatest-none : (r : ℕ → ℕ) (n : ℕ) → n ≤ 0 → greatest huge r n ≡ 0
+  unfolding greatest
+  greatest-none r zero l = refl
+  greatest-none r (suc n) l = absurd (omega arith)
+
   -- where a row is below huge at some v up to n, it is so at the greatest, which is at least v
   pub greatest-is : (r : ℕ → ℕ) (n v : ℕ) → v ≤ n → r v < huge → (r (greatest huge r n) < huge) × (v ≤ greatest huge r n)
   unfolding greatest
@@ -58,6 +85,15 @@ module _ (worth : Job → ℕ) (huge : ℕ) where
   abbrev either : Job → List Job → ℕ → ℕ
   either job jobs v = min (with-job job jobs v) (row worth huge jobs v)
 
+  -- with the job kept, where its worth is at most v, and where it is more
+  pub keeping-enough : (job : Job) (inner : ℕ → ℕ) (v : ℕ) → worth job ≤ v → keeping worth huge job inner v ≡ job .optional + inner (v - worth job)
+  unfolding keeping
+  keeping-enough job inner v l = pick-true _ _ _ (le-leb (worth job) v l)
+
+  pub keeping-short : (job : Job) (inner : ℕ → ℕ) (v : ℕ) → v < worth job → keeping worth huge job inner v ≡ huge
+  unfolding keeping
+  keeping-short job inner v l = pick-false _ _ _ (lt-leb (worth job) v l)
+
   -- with the job kept there are no more ticks than its own and those of the jobs inside it
   keeping-least : (job : Job) (inner : ℕ → ℕ) (v x : ℕ) → inner v ≤ x → keeping worth huge job inner (worth job + v) ≤ job .optional + x
   unfolding keeping
@@ -66,7 +102,7 @@ module _ (worth : Job → ℕ) (huge : ℕ) where
       (λ t. rw add-sub-cancel-left (omega arith)) (λ t. absurd (omega (arith, leb-false)))
 
   -- a number below huge is the ticks of the job and those of the jobs inside it
-  keeping-is : (job : Job) (inner : ℕ → ℕ) (v x : ℕ) → keeping worth huge job inner v ≡ x → x < huge
+  pub keeping-is : (job : Job) (inner : ℕ → ℕ) (v x : ℕ) → keeping worth huge job inner v ≡ x → x < huge
       → (worth job ≤ v) × (job .optional ≤ x) × (inner (v - worth job) ≡ x - job .optional)
   unfolding keeping
   keeping-is job inner v x e l =
@@ -74,7 +110,7 @@ module _ (worth : Job → ℕ) (huge : ℕ) where
       (λ t q. omega (arith, leb-true)) (λ t q. absurd (omega arith))
 
   -- the window has room for a number of the row below huge, and one of the two ways reaches it
-  row-is : (job : Job) (jobs : List Job) (v x : ℕ) → row worth huge (job ∷ jobs) v ≡ x → x < huge
+  pub row-is : (job : Job) (jobs : List Job) (v x : ℕ) → row worth huge (job ∷ jobs) v ≡ x → x < huge
       → (mandatorySum (job ∷ jobs) + x ≤ windowTicks job) × (either job jobs v ≡ x)
   unfolding row
   row-is job jobs v x e l = within-is huge (mandatorySum (job ∷ jobs)) (windowTicks job) (either job jobs v) x e l

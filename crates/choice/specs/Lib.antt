@@ -1,3 +1,4 @@
 pub mod Choice
 pub mod Rows
+pub mod Decisions
 pub mod ChoiceSamples

@@ -1,2 +1,4 @@
 pub mod NestLaws
+pub mod InsertLaws
+pub mod OrderLaws
 pub mod TableRunnings

@@ -7,3 +7,6 @@ pub mod RunOrder
 pub mod SampleLaws
 pub mod Permutations
 pub mod PlanLaws
+pub mod FillLaws
+pub mod FilledPlaces
+pub mod ColumnLaws

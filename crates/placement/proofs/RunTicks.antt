@@ -234,7 +234,7 @@ placed-inner owner job jobs c h tick k e = go jobs (c .nested .0) (c .distinct .
     go (other ∷ jobs) n d (inr q) = go jobs (n .1) (d .1) q
 
 -- windows between a and b have no deadline after b
-deadlines : (a b : ℕ) (jobs : List Job) → All (Between a b) jobs → All (λ job. job .deadline ≤ b) jobs
+pub deadlines : (a b : ℕ) (jobs : List Job) → All (Between a b) jobs → All (λ job. job .deadline ≤ b) jobs
 deadlines a b [] u = tt
 deadlines a b (job ∷ jobs) u = (u .0 .1, deadlines a b jobs (u .1))
 

@@ -7,6 +7,10 @@ use Rattle.schedule.specs.declared.Job.{Job}
 use Rattle.schedule.specs.declared.Run.{Run}
 use Rattle.choice.specs.Choice.{workWith}
 
+-- the most runs of a plan: 2 n − 1 for n = 64 tasks
+abbrev pub maxPlanRuns : ℕ
+maxPlanRuns = 127
+
 -- one more run of task i, of n ticks that end at `top`; no run where n is 0
 abbrev pub addRun : ℕ → ℕ → ℕ → List Run → List Run
 addRun i top zero runs = runs

@@ -63,3 +63,8 @@ latestFirst owner (suc n) = joinTick n (owner n) (latestFirst owner n)
 -- 'Runs are listed by start.'
 abbrev pub stretches : Owner → ℕ → List Run
 stretches owner n = reverse (latestFirst owner n)
+
+-- the deadline of the outermost job, and 0 where there is none: in a chain of jobs no tick from there on is anyone's
+abbrev pub outermostDeadline : List Job → ℕ
+outermostDeadline [] = 0
+outermostDeadline (job ∷ jobs) = job .deadline

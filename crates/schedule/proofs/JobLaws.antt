@@ -27,6 +27,17 @@ deadline-bounded : (p q f : ℕ) → 0 < q → f ≤ lastFrame → p ≤ maxPeri
 unfolding deadlineTick
 deadline-bounded p q f z a b = le-trans (div-le-self (f * p) q) (frame-ticks f p a b)
 
+-- the period of an accepted table, and its frames
+pub legal-period : (t : Table) → Legal t → LegalPeriod (t .p) (t .q)
+legal-period t l =
+    let k = period-known (t .p) (t .q) (l .timed) in
+    record { positive = omega arith; ordered = k .1; small = k .2 }
+
+pub legal-frames : (t : Table) → Legal t → (k : ℕ) → k < t .count → (taskAt t k .release ≤ lastFrame) × (taskAt t k .deadline ≤ lastFrame)
+legal-frames t l k h =
+    let n = narrow-known (taskAt t k) (l .narrow k h) in
+    (omega (arith, n .release), omega (arith, n .deadline))
+
 -- each job of an accepted table is within its limits
 pub job-bounded : (t : Table) → Legal t → (k : ℕ) → k < t .count → Bounded (jobAt t k)
 unfolding jobAt jobOf

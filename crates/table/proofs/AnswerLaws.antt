@@ -4,6 +4,7 @@ use mathlib.Core.Path.{_≡_, refl}
 use mathlib.Core.Bool.{Bool, true, false}
 use mathlib.Core.List.{List, [], _∷_}
 use lib.Dec.{eqb}
+use Rattle.base.proofs.TestLaws.{both-absurd}
 use types.Run.{OneOf, miss}
 use denote.Enum.Declared.{tagOf}
 use Rattle.table.specs.declared.Answer.{Answer}
@@ -39,3 +40,14 @@ refused-number Padding e = refl
 refused-number Period e = refl
 refused-number (Window position) e = refl
 refused-number (Nesting position) e = refl
+
+-- an answer that refuses nothing is `Accepted`
+pub accepted-is : (a : Answer) → isAccepted a ≡ true → a ≡ Accepted
+accepted-is Accepted e = refl
+accepted-is (Short length) e = both-absurd false e refl
+accepted-is Count e = both-absurd false e refl
+accepted-is (Long needed) e = both-absurd false e refl
+accepted-is Padding e = both-absurd false e refl
+accepted-is Period e = both-absurd false e refl
+accepted-is (Window position) e = both-absurd false e refl
+accepted-is (Nesting position) e = both-absurd false e refl

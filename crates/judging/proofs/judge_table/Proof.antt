@@ -5,30 +5,15 @@ use mathlib.Core.Bool.{Bool, true, false}
 use native.Mathlib.Omega.{arith}
 use borrow.Author.Needs.{needs}
 use lib.ListN.{length, getD}
-use Rattle.base.specs.Limits.{lastFrame}
-use Rattle.clock.specs.Clock.{LegalPeriod}
-use Rattle.table.specs.declared.Table.{Table}
-use Rattle.table.specs.Tables.{taskAt}
-use Rattle.table.specs.Writing.{Legal}
-use Rattle.table.proofs.FileLaws.{legal-count, period-known, narrow-known}
+use Rattle.table.proofs.FileLaws.{legal-count}
 use Rattle.schedule.specs.declared.Judged.{Judged}
 use Rattle.schedule.specs.Jobs.{noJob, jobAt}
 use Rattle.schedule.specs.Runs.{badColumns, runsOf}
 use Rattle.schedule.specs.Judging.{verdict, keptCount, discardedCount, firstBadMark, judgeDeclined}
+use Rattle.schedule.proofs.JobLaws.{legal-period, legal-frames}
 use Rattle.judging.proofs.FairLaws.{fair-verdict, jobs-at, kept-same, discarded-same, Columns, columns-known, length-refused, mark-refused, columns-refused, says-yes, says-no}
 use Rattle.judging.proofs.judge_table.Statement.{statement}
 use Rattle.judging.proofs.judge_table.Tie as tie
-
--- the period of a legal table, and its frames
-legal-period : (t : Table) → Legal t → LegalPeriod (t .p) (t .q)
-legal-period t l =
-    let k = period-known (t .p) (t .q) (l .timed) in
-    record { positive = omega arith; ordered = k .1; small = k .2 }
-
-legal-frames : (t : Table) → Legal t → (k : ℕ) → k < t .count → (taskAt t k .release ≤ lastFrame) × (taskAt t k .deadline ≤ lastFrame)
-legal-frames t l k h =
-    let n = narrow-known (taskAt t k) (l .narrow k h) in
-    (omega (arith, n .release), omega (arith, n .deadline))
 
 -- the marks' number and content were looked at
 long : (c : tie.Else1) → length (c .before .before .before .before .before .before .args .marks .now) ≡ c .before .before .before .before .before .before .args .table .count

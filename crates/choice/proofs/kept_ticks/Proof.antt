@@ -1,0 +1,34 @@
+-- `choice::kept_ticks` meets its contract.
+use Prim.Native.Nat.{_-_}
+use mathlib.Core.Path.{sym}
+use native.Mathlib.Omega.{arith}
+use borrow.Author.Needs.{needs}
+use lib.ListN.{getD}
+use Rattle.choice.specs.Choice.{countOne}
+use Rattle.choice.specs.Decisions.{hugeTicks}
+use Rattle.choice.proofs.RowLaws.{keeping-enough, keeping-short}
+use Rattle.choice.proofs.kept_ticks.Statement.{statement}
+use Rattle.choice.proofs.kept_ticks.Tie as tie
+
+worth-requires : tie.Need-worth-requires
+worth-requires c κs = search needs
+
+returns : tie.Need-returns
+returns c = sym (keeping-short countOne hugeTicks _ _ _ (omega arith))
+
+mul-result : tie.Need-mul-result
+mul-result c = search needs
+
+shared-slice-read-result : tie.Need-shared-slice-read-result
+shared-slice-read-result c = search needs
+
+add-result : tie.Need-add-result
+add-result c = omega (arith, c .before .before .before .before .before .pre .1 .1 (c .before .before .before .before .before .args .v - c .before .before .before .worth .result) (omega arith))
+
+returns-2 : tie.Need-returns-2
+returns-2 c = rw (keeping-enough countOne hugeTicks (c .before .before .before .before .before .args .job) (λ k. getD (c .before .before .before .before .before .args .inner .now) k 0) (c .before .before .before .before .before .args .v) (omega arith), c .before .before .before .worth .ensures)
+
+pub kept-ticks-spec : {M : Type 1} → statement M
+kept-ticks-spec =
+    tie.close
+    (tie.spec worth-requires returns mul-result shared-slice-read-result add-result returns-2)

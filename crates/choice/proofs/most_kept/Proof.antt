@@ -1,0 +1,55 @@
+-- `choice::most_kept` meets its contract: the places are tried from the last downwards.
+use Prim.Native.Nat.{_≤_}
+use mathlib.Core.Path.{_≡_, sym, _∙_, refl}
+use native.Mathlib.Omega.{arith}
+use lib.ListN.{getD}
+use Rattle.choice.specs.Rows.{greatest}
+use Rattle.choice.specs.Decisions.{hugeTicks}
+use Rattle.choice.proofs.RowLaws.{greatest-none, greatest-found, greatest-passed}
+use Rattle.choice.proofs.most_kept.Statement.{statement}
+use Rattle.choice.proofs.most_kept.Tie as tie
+
+abbrev Inv-loop : tie.InvT-loop
+Inv-loop most ticks v₀ v = (v ≤ most) × (greatest hugeTicks (λ v. getD ticks v 0) v ≡ greatest hugeTicks (λ v. getD ticks v 0) most)
+
+abbrev μ-loop : tie.MeasureT-loop
+μ-loop most ticks v₀ v = v
+
+loop-holds : tie.Need-loop-holds Inv-loop μ-loop
+loop-holds c = (omega arith, refl)
+
+mul-if1 : tie.Need-mul-if1 Inv-loop μ-loop
+mul-if1 c = omega arith
+
+array-read-if1 : tie.Need-array-read-if1 Inv-loop μ-loop
+array-read-if1 c = omega arith
+
+returns : tie.Need-returns Inv-loop μ-loop
+returns c = sym (greatest-found hugeTicks _ _ (omega arith) (c .if1 .taken)) ∙ c .before .before .loop .inv .1
+
+sub-v : tie.Need-sub-v Inv-loop μ-loop
+sub-v c = omega arith
+
+loop-less : tie.Need-loop-less Inv-loop μ-loop
+loop-less c = omega arith
+
+loop-again : tie.Need-loop-again Inv-loop μ-loop
+loop-again c = (omega arith, greatest-passed hugeTicks _ _ (omega arith) (c .if1 .left) ∙ c .before .before .loop .inv .1)
+
+returns-2 : tie.Need-returns-2 Inv-loop μ-loop
+returns-2 c = sym (greatest-none hugeTicks _ _ (omega arith)) ∙ c .before .loop .inv .1
+
+pub most-kept-spec : {M : Type 1} → statement M
+most-kept-spec =
+    tie.close
+    (tie.spec
+    Inv-loop
+    μ-loop
+    loop-holds
+    mul-if1
+    array-read-if1
+    returns
+    sub-v
+    loop-less
+    loop-again
+    returns-2)

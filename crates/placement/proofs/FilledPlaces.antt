@@ -1,0 +1,68 @@
+-- The runs of jobs that stand in an array, filled in from the last job to the first.
+use Prim.Native.Nat.{ℕ, _+_, _-_, _*_, _≤_, _<_}
+use mathlib.Core.Path.{_≡_, sym, ap, _∙_}
+use mathlib.Core.List.{List, [], _∷_}
+use mathlib.Core.Bool.{Bool, true, false}
+use native.Mathlib.Omega.{arith}
+use lib.ListN.{length, getD}
+use Rattle.base.specs.Places.{placesFrom, firstPlaces}
+use Rattle.base.proofs.PlaceLaws.{from-length, places-length, left-start, left-step, left-end}
+use Rattle.schedule.specs.declared.Job.{Job}
+use Rattle.schedule.specs.declared.Run.{Run}
+use Rattle.schedule.specs.Jobs.{noJob}
+use Rattle.schedule.specs.Runs.{noRun}
+use Rattle.schedule.specs.Runnings.{All}
+use Rattle.choice.specs.Choice.{workWith, fits}
+use Rattle.placement.specs.Nesting.{Chain}
+use Rattle.placement.specs.Placing.{placed, latestFirst, outermostDeadline}
+use Rattle.placement.specs.Filling.{fill, filled}
+use Rattle.placement.proofs.RunCount.{filled-few}
+use Rattle.placement.proofs.RunTicks.{deadlines, filled-latest}
+
+-- no deadline of a chain is after the outermost
+pub chain-deadlines : (jobs : List Job) → Chain jobs → All (λ job. job .deadline ≤ outermostDeadline jobs) jobs
+chain-deadlines [] c = tt
+chain-deadlines (job ∷ jobs) c = (omega arith, deadlines (job .release) (job .deadline) jobs (c .nested .0))
+
+module _ (jobs : List Job) (keeps : List Bool) (count : ℕ) where
+  -- the runs of the jobs from place i on
+  unfoldable pub runsFrom : ℕ → List Run
+  runsFrom i = filled (placesFrom (λ k. getD jobs k noJob) i (count - i)) (placesFrom (λ k. getD keeps k false) i (count - i))
+
+  -- at the end there is none
+  pub from-none : (i : ℕ) → count ≤ i → runsFrom i ≡ []
+  unfolding runsFrom filled
+  from-none i h = rw (left-end (λ k. getD jobs k noJob) count i h)
+
+  -- for n jobs there are no more than 2 n − 1,
+  pub from-few : (i : ℕ) → length (runsFrom i) ≤ 2 * (count - i) - 1
+  unfolding runsFrom
+  from-few i =
+      let js = placesFrom (λ k. getD jobs k noJob) i (count - i) in
+      let ks = placesFrom (λ k. getD keeps k false) i (count - i) in
+      omega (arith, filled-few js ks, from-length (λ k. getD jobs k noJob) i (count - i))
+
+  -- and so a run list that holds them counts
+  pub count-few : (i n : ℕ) (runs : List Run) → firstPlaces noRun runs n ≡ runsFrom i → n ≤ 2 * (count - i) - 1
+  count-few i n runs e = omega (arith, from-few i, sym (places-length (λ k. getD runs k noRun) n) ∙ ap length e)
+
+  -- one job more is filled in
+  from-step : (i : ℕ) → i < count
+      → runsFrom i ≡ fill (getD jobs i noJob .position) (getD jobs i noJob .release) (runsFrom (i + 1)) (getD jobs i noJob .deadline) (workWith (getD jobs i noJob) (getD keeps i false))
+  unfolding runsFrom filled
+  from-step i h = rw (left-step (λ k. getD jobs k noJob) count i h, left-step (λ k. getD keeps k false) count i h)
+
+  pub from-next : (i w : ℕ) (runs : List Run) → 0 < i → i ≤ count → runs ≡ runsFrom i → w ≡ workWith (getD jobs (i - 1) noJob) (getD keeps (i - 1) false)
+      → fill (getD jobs (i - 1) noJob .position) (getD jobs (i - 1) noJob .release) runs (getD jobs (i - 1) noJob .deadline) w ≡ runsFrom (i - 1)
+  from-next i w runs l h e f =
+      let back : i - 1 + 1 ≡ i = omega arith in
+      rw (from-step (i - 1) (omega arith), back, e, f)
+
+  -- all jobs: the longest stretches of their placing, the latest first
+  pub from-all : Chain (firstPlaces noJob jobs count) → fits (firstPlaces noJob jobs count) (firstPlaces false keeps count) ≡ true
+      → runsFrom 0 ≡ latestFirst (placed (firstPlaces noJob jobs count) (firstPlaces false keeps count)) (outermostDeadline (firstPlaces noJob jobs count))
+  unfolding runsFrom
+  from-all c e =
+      let js = firstPlaces noJob jobs count in
+      rw (left-start (λ k. getD jobs k noJob) count, left-start (λ k. getD keeps k false) count)
+      (sym (filled-latest js (firstPlaces false keeps count) c e (outermostDeadline js) (chain-deadlines js c)))

@@ -1,0 +1,108 @@
+-- `planner::plan_table` meets its contract: each return knows the tests that led there, in their order, and a refusal touches no list.
+use Prim.Native.Nat.{_≤_, _<_}
+use mathlib.Core.Path.{_≡_, refl, sym, ap, _∙_}
+use mathlib.Core.Bool.{true, false}
+use native.Mathlib.Omega.{arith}
+use borrow.Author.Needs.{needs}
+use borrow.Author.Tests.{le-ltb}
+use lib.Dec.{eqb}
+use lib.ListN.{length}
+use Rattle.table.proofs.FileLaws.{legal-count}
+use Rattle.planner.specs.declared.Planned.{Planned}
+use Rattle.planner.specs.Planning.{firstExceeding, planDeclined, planOf}
+use Rattle.planner.proofs.PlanLaws.{none-exceeds}
+use Rattle.planner.proofs.ReplyLaws.{table-exceeds, table-short, table-plans, lists-kept, lists-written}
+use Rattle.planner.proofs.ArrayLaws.{array-bounded, array-exceeding}
+use Rattle.planner.proofs.plan_table.Statement.{statement}
+use Rattle.planner.proofs.plan_table.Tie as tie
+
+-- what the search for a task that exceeds its window found
+searched : (c : tie.After-first-exceeding) → c .first-exceeding .result ≡ firstExceeding (c .before .before .before .before .before .before .before .args .table)
+searched c =
+    let start = c .before .before .before .before .before .before .before in
+    c .first-exceeding .ensures ∙ array-exceeding (start .args .table) (start .pre) (c .before .jobs-outermost-first .result) (c .before .jobs-outermost-first .ensures)
+
+cast-count : tie.Need-cast-count
+cast-count c = search needs
+
+jobs-outermost-first-requires : tie.Need-jobs-outermost-first-requires
+jobs-outermost-first-requires c κs = search needs
+
+first-exceeding-requires : tie.Need-first-exceeding-requires
+first-exceeding-requires c κs =
+    let start = c .before .before .before .before .before .before in
+    (legal-count (start .pre) .1, array-bounded (start .args .table) (start .pre) (c .jobs-outermost-first .result) (c .jobs-outermost-first .ensures))
+
+declined-requires : tie.Need-declined-requires
+declined-requires c κs = search needs
+
+returns : tie.Need-returns
+returns c =
+    let start = c .before .before .before .before .before .before .before .before .before in
+    let found = searched (c .before .before) in
+    let kept = lists-kept (start .args .table) (c .declined .result .number) (ap (λ (p : Planned). eqb (p .number) 0) (c .declined .ensures)) (start .args .marks .now) (start .args .starts .now) (start .args .ends .now) (start .args .tasks .now) in
+    (c .declined .ensures ∙ ap (planDeclined 8) found ∙ sym (table-exceeds (start .args .table) _ _ _ _ (omega (arith, found))), kept .0, kept .1, kept .2, kept .3)
+
+too-short-requires : tie.Need-too-short-requires
+too-short-requires c κs = legal-count (c .before .before .before .before .before .before .before .before .pre)
+
+declined-requires-2 : tie.Need-declined-requires-2
+declined-requires-2 c κs = search needs
+
+returns-2 : tie.Need-returns-2
+returns-2 c =
+    let start = c .before .before .before .before .before .before .before .before .before .before .before in
+    let found = searched (c .before .before .before .before) in
+    let kept = lists-kept (start .args .table) (c .declined2 .result .number) (ap (λ (p : Planned). eqb (p .number) 0) (c .declined2 .ensures)) (start .args .marks .now) (start .args .starts .now) (start .args .ends .now) (start .args .tasks .now) in
+    (c .declined2 .ensures ∙ sym (table-short (start .args .table) _ _ _ _ (omega (arith, found)) (sym (c .before .before .too-short .ensures) ∙ c .before .if2 .taken)), kept .0, kept .1, kept .2, kept .3)
+
+put-plan-requires : tie.Need-put-plan-requires
+put-plan-requires c κs =
+    let start = c .before .before .before .before .before .before .before .before .before .before .before .before .before .before in
+    let found = searched (c .before .before .before .before .before .before .before) in (
+      start .pre,
+      (
+        c .before .before .before .before .before .before .before .before .jobs-outermost-first .ensures,
+        (none-exceeds (start .args .table) (le-ltb (firstExceeding (start .args .table)) (start .args .table .count) (omega (arith, found))), sym (c .before .before .before .before .before .too-short .ensures) ∙ c .before .before .before .before .if2 .left),
+      ),
+    )
+
+same-length : tie.Need-same-length
+same-length c = search needs
+
+same-length-2 : tie.Need-same-length-2
+same-length-2 c = search needs
+
+same-length-3 : tie.Need-same-length-3
+same-length-3 c = search needs
+
+same-length-4 : tie.Need-same-length-4
+same-length-4 c = search needs
+
+returns-3 : tie.Need-returns-3
+unfolding planOf
+returns-3 c =
+    let start = c .before .before .before .before .before .before .before .before .before .before .before .before .before .before .before .before .before .before .before .before .before .before .before in
+    let found = searched (c .before .before .before .before .before .before .before .before .before .before .before .before .before .before .before .before) in
+    let put = c .before .before .before .before .before .before .before .before .put-plan .ensures in
+    let front = lists-written (start .args .table) (c .before .before .before .before .before .before .before .before .put-plan .result .number) (ap (λ (p : Planned). p .number) (put .0)) (start .args .marks .now) (start .args .starts .now) (start .args .ends .now) (start .args .tasks .now) in
+    (put .0 ∙ sym (table-plans (start .args .table) _ _ _ _ (omega (arith, found)) (sym (c .before .before .before .before .before .before .before .before .before .before .before .before .before .before .too-short .ensures) ∙ c .before .before .before .before .before .before .before .before .before .before .before .before .before .if2 .left)), put .1 ∙ front .0, put .2 ∙ front .1, put .3 ∙ front .2, put .4 ∙ front .3)
+
+pub plan-table-spec : {M : Type 1} → statement M
+plan-table-spec =
+    tie.close
+    (tie.spec
+    cast-count
+    jobs-outermost-first-requires
+    first-exceeding-requires
+    declined-requires
+    returns
+    too-short-requires
+    declined-requires-2
+    returns-2
+    put-plan-requires
+    same-length
+    same-length-2
+    same-length-3
+    same-length-4
+    returns-3)

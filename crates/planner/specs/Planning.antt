@@ -1,0 +1,103 @@
+-- Planning a table: the keep list, the runs, the reply, and what the lent lists hold afterwards.
+use Prim.Native.Nat.{ℕ, _+_, _-_, _*_}
+use mathlib.Core.List.{List, [], _∷_, map}
+use mathlib.Core.Bool.{Bool}
+use lib.Dec.{ltb, eqb}
+use lib.ListN.{length}
+use Rattle.base.specs.Tests.{pick, or}
+use Rattle.base.specs.Places.{places}
+use Rattle.base.specs.Lent.{contentAfter}
+use Rattle.table.specs.declared.Table.{Table}
+use Rattle.table.specs.Answers.{numberOf, placeOf, isAccepted}
+use Rattle.table.specs.Reading.{tableIn, readAnswer}
+use Rattle.schedule.specs.declared.Job.{Job}
+use Rattle.schedule.specs.declared.Run.{Run}
+use Rattle.schedule.specs.Jobs.{jobAt}
+use Rattle.schedule.specs.Ticks.{one}
+use Rattle.choice.specs.Choice.{windowTicks, chosen, kept, discarded}
+use Rattle.placement.specs.Placing.{placed, stretches, outermostDeadline}
+use Rattle.nesting.specs.NestOrder.{nestOrder, jobsOutermostFirst}
+use Rattle.planner.specs.declared.Planned.{Planned}
+
+-- 8: 'first task in nest order where the mandatory ticks up to and with it exceed its window'.
+
+-- its position, among jobs in nest order that come after others of `sum` mandatory ticks, and n where there is none
+unfoldable pub exceedingAfter : ℕ → ℕ → List Job → ℕ
+exceedingAfter n sum [] = n
+exceedingAfter n sum (job ∷ jobs) =
+    pick (ltb (windowTicks job) (sum + job .mandatory)) (job .position) (exceedingAfter n (sum + job .mandatory) jobs)
+
+-- its position in a table, and the task count where there is none
+unfoldable pub firstExceeding : Table → ℕ
+firstExceeding t = exceedingAfter (t .count) 0 (map (jobAt t) (nestOrder t))
+
+-- 9: 'a lent list is too short: n marks, 2n − 1 runs'; from the lengths of the lists
+unfoldable pub tooShort : ℕ → ℕ → ℕ → ℕ → ℕ → Bool
+tooShort n marks starts ends tasks = or (ltb marks n) (or (ltb starts (2 * n - 1)) (or (ltb ends (2 * n - 1)) (ltb tasks (2 * n - 1))))
+
+-- the keep list of a table, outermost first
+unfoldable pub keepList : Table → List Bool
+keepList t = chosen (jobsOutermostFirst t)
+
+-- the mark of position k in a keep list of jobs: 1 kept, 0 discarded
+unfoldable pub markAt : List Job → List Bool → ℕ → ℕ
+markAt [] keeps k = 0
+markAt (job ∷ jobs) [] k = 0
+markAt (job ∷ jobs) (keep ∷ keeps) k = pick (eqb (job .position) k) (one keep) (markAt jobs keeps k)
+
+-- the marks of a plan: the keep list by position
+unfoldable pub planMarks : Table → List ℕ
+planMarks t = places (markAt (jobsOutermostFirst t) (keepList t)) (t .count)
+
+-- the runs of a plan, by start
+unfoldable pub planRuns : Table → List Run
+planRuns t = stretches (placed (jobsOutermostFirst t) (keepList t)) (outermostDeadline (jobsOutermostFirst t))
+
+-- the columns of runs
+abbrev pub startsOf : List Run → List ℕ
+startsOf runs = map (λ run. run .start) runs
+
+abbrev pub endsOf : List Run → List ℕ
+endsOf runs = map (λ run. run .end) runs
+
+abbrev pub tasksOf : List Run → List ℕ
+tasksOf runs = map (λ run. run .task) runs
+
+-- the reply of a refusal, and of a plan: parts that are not named are 0
+abbrev pub planDeclined : ℕ → ℕ → Planned
+planDeclined number place = record { number = number; place = place; kept = 0; discarded = 0; runs = 0 }
+
+unfoldable pub planOf : Table → Planned
+planOf t =
+    record {
+      number = 0;
+      place = 0;
+      kept = kept (jobsOutermostFirst t) (keepList t);
+      discarded = discarded (jobsOutermostFirst t) (keepList t);
+      runs = length (planRuns t);
+    }
+
+-- what planning replies on the table of an accepted file, from the lengths of the lent lists: 8, then 9, then the plan
+unfoldable pub planTable : Table → ℕ → ℕ → ℕ → ℕ → Planned
+planTable t marks starts ends tasks =
+    pick (ltb (firstExceeding t) (t .count)) (planDeclined 8 (firstExceeding t))
+    (pick (tooShort (t .count) marks starts ends tasks) (planDeclined 9 0) (planOf t))
+
+-- the reply of planning: reading's refusals, then 8, then 9
+unfoldable pub planReply : List ℕ → ℕ → ℕ → ℕ → ℕ → Planned
+planReply file marks starts ends tasks =
+    pick (isAccepted (readAnswer file)) (planTable (tableIn file) marks starts ends tasks)
+    (planDeclined (numberOf (readAnswer file)) (placeOf (readAnswer file)))
+
+-- what the lent lists hold after planning that replied with a number: the marks, and the columns of the runs
+unfoldable pub marksAfter : Table → ℕ → List ℕ → List ℕ
+marksAfter t number marks = contentAfter number (planMarks t) marks
+
+unfoldable pub startsAfter : Table → ℕ → List ℕ → List ℕ
+startsAfter t number starts = contentAfter number (startsOf (planRuns t)) starts
+
+unfoldable pub endsAfter : Table → ℕ → List ℕ → List ℕ
+endsAfter t number ends = contentAfter number (endsOf (planRuns t)) ends
+
+unfoldable pub tasksAfter : Table → ℕ → List ℕ → List ℕ
+tasksAfter t number tasks = contentAfter number (tasksOf (planRuns t)) tasks

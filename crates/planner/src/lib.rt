@@ -1,0 +1,186 @@
+// Planning (an entry point): reading's refusals, then 8 and 9, then the choice of optional parts and the placing of work, and the marks and runs
+// in the lent lists.
+ghost use mathlib.Core.Path.{_≡_};
+ghost use mathlib.Core.Logic.{_↔_};
+ghost use mathlib.Core.Bool.{true, false};
+ghost use mathlib.Core.List.{_++_, reverse};
+ghost use Prim.Native.Nat.{ℕ, _≤_, _<_};
+ghost use lib.ListN.{length, getD, take, drop};
+ghost use Rattle.base.specs.Limits.{maxTasks};
+ghost use Rattle.base.specs.Places.{places, firstPlaces};
+ghost use Rattle.base.specs.Lent.{writtenFront};
+ghost use Rattle.table.specs.declared.Answer.the-variants.{Accepted};
+ghost use Rattle.table.specs.Reading.{tableIn, readAnswer};
+ghost use Rattle.table.specs.Writing.{Legal};
+ghost use Rattle.schedule.specs.Jobs.{noJob, Bounded};
+ghost use Rattle.schedule.specs.Runnings.{Any, Distinct};
+ghost use Rattle.schedule.specs.Runs.{runsOf};
+ghost use Rattle.schedule.specs.Judging.{judged, judgeSays};
+ghost use Rattle.choice.specs.Choice.{fits, keepNone};
+ghost use Rattle.placement.specs.Nesting.{positions};
+ghost use Rattle.nesting.specs.NestOrder.{jobsOutermostFirst};
+ghost use Rattle.planner.specs.Planning.{exceedingAfter, tooShort, markAt, planMarks, planRuns, startsOf, endsOf, tasksOf, planDeclined, planOf, planTable, planReply, marksAfter, startsAfter, endsAfter, tasksAfter};
+ghost use Rattle.planner.specs.Demands.{NoRunning, Optimal};
+use base::MAX_TASKS;
+use schedule::Job;
+use table::Answer;
+use table::Table;
+
+// The reply of planning: the refusal's number and place; or 0, the counts kept and discarded, and the number of runs.
+pub struct Planned {
+    pub number: u32,
+    pub place: usize,
+    pub kept: u32,
+    pub discarded: u32,
+    pub runs: usize,
+}
+
+// The reply of a refusal.
+fn declined(number: u32, place: usize) -> Planned
+    ensures { λ r. ⌜ r ≡ planDeclined number place ⌝ }
+{
+    Planned {
+        number,
+        place,
+        kept: 0,
+        discarded: 0,
+        runs: 0,
+    }
+}
+
+// The position of the first job in nest order whose mandatory ticks, with those of all before it, exceed its window, and the count where there
+// is none. The jobs stand outermost first at the first `count` places.
+fn first_exceeding(jobs: [Job; MAX_TASKS], count: usize) -> usize
+    requires { ⌜ count ≤ maxTasks ⌝ }
+    requires { ⌜ ((k : ℕ) → k < count → Bounded (getD jobs k noJob)) ⌝ }
+    ensures { λ r. ⌜ r ≡ exceedingAfter count 0 (reverse (firstPlaces noJob jobs count)) ⌝ }
+{
+    let mut sum: u32 = 0;
+    let mut i = count;
+    while 0 < i {
+        i -= 1;
+        let job = jobs[i];
+        sum += job.mandatory;
+        if choice::window_ticks(job) < sum {
+            return job.position as usize;
+        }
+    }
+    count
+}
+
+// A lent list is too short for n tasks: n marks, 2n − 1 runs.
+fn too_short(n: usize, marks: usize, starts: usize, ends: usize, tasks: usize) -> bool
+    requires { ⌜ (0 < n) × (n ≤ maxTasks) ⌝ }
+    ensures { λ r. ⌜ r ≡ tooShort n marks starts ends tasks ⌝ }
+{
+    if marks < n {
+        return true;
+    }
+    let runs = 2 * n - 1;
+    if starts < runs {
+        return true;
+    }
+    if ends < runs {
+        return true;
+    }
+    tasks < runs
+}
+
+// The marks of a keep list, put by position into a lent list; what stands beyond them is kept.
+fn put_marks(jobs: [Job; MAX_TASKS], keeps: [bool; MAX_TASKS], count: usize, marks: &mut [u8])
+    requires { ⌜ count ≤ maxTasks ⌝ }
+    requires { ⌜ count ≤ length (now marks) ⌝ }
+    requires { ⌜ ((k : ℕ) → k < count → getD jobs k noJob .position < count) ⌝ }
+    requires { ⌜ Distinct (positions (firstPlaces noJob jobs count)) ⌝ }
+    requires { ⌜ ((k : ℕ) → k < count → Any (λ job. job .position ≡ k) (firstPlaces noJob jobs count)) ⌝ }
+    ensures { λ _. ⌜ now (marks .exit) ≡ places (markAt (firstPlaces noJob jobs count) (firstPlaces false keeps count)) count ++ drop count (now (marks .entry)) ⌝ }
+{
+    let mut i: usize = 0;
+    while i < count {
+        let job = jobs[i];
+        let k = job.position as usize;
+        marks[k] = if keeps[i] { 1 } else { 0 };
+        i += 1;
+    }
+}
+
+// The plan of a table whose mandatory parts fit, into lists that are long enough. Its jobs stand outermost first.
+fn put_plan(
+    table: Table,
+    jobs: [Job; MAX_TASKS],
+    marks: &mut [u8],
+    starts: &mut [u32],
+    ends: &mut [u32],
+    tasks: &mut [u32],
+) -> Planned
+    requires { ⌜ Legal table ⌝ }
+    requires { ⌜ firstPlaces noJob jobs (table .count) ≡ jobsOutermostFirst table ⌝ }
+    requires { ⌜ fits (jobsOutermostFirst table) (keepNone (jobsOutermostFirst table)) ≡ true ⌝ }
+    requires { ⌜ tooShort (table .count) (length (now marks)) (length (now starts)) (length (now ends)) (length (now tasks)) ≡ false ⌝ }
+    ensures { λ r. ⌜ (r ≡ planOf table) × (now (marks .exit) ≡ writtenFront (planMarks table) (now (marks .entry))) × (now (starts .exit) ≡ writtenFront (startsOf (planRuns table)) (now (starts .entry))) × (now (ends .exit) ≡ writtenFront (endsOf (planRuns table)) (now (ends .entry))) × (now (tasks .exit) ≡ writtenFront (tasksOf (planRuns table)) (now (tasks .entry))) ⌝ }
+{
+    let count = table.count as usize;
+    let choice = choice::choose(jobs, count);
+    let keeps = choice.keeps;
+    let list = placement::place(jobs, count, keeps);
+    let runs = list.count;
+    put_marks(jobs, keeps, count, marks);
+    placement::put_runs(list, starts, ends, tasks);
+    Planned {
+        number: 0,
+        place: 0,
+        kept: choice.kept,
+        discarded: choice.discarded,
+        runs,
+    }
+}
+
+// Planning the table of an accepted file: 8, then 9, then the plan.
+fn plan_table(
+    table: Table,
+    marks: &mut [u8],
+    starts: &mut [u32],
+    ends: &mut [u32],
+    tasks: &mut [u32],
+) -> Planned
+    requires { ⌜ Legal table ⌝ }
+    ensures { λ r. ⌜ (r ≡ planTable table (length (now (marks .entry))) (length (now (starts .entry))) (length (now (ends .entry))) (length (now (tasks .entry)))) × (now (marks .exit) ≡ marksAfter table (r .number) (now (marks .entry))) × (now (starts .exit) ≡ startsAfter table (r .number) (now (starts .entry))) × (now (ends .exit) ≡ endsAfter table (r .number) (now (ends .entry))) × (now (tasks .exit) ≡ tasksAfter table (r .number) (now (tasks .entry))) ⌝ }
+{
+    let count = table.count as usize;
+    let jobs = nesting::jobs_outermost_first(table);
+    let exceeding = first_exceeding(jobs, count);
+    if exceeding < count {
+        return declined(8, exceeding);
+    }
+    if too_short(count, marks.len(), starts.len(), ends.len(), tasks.len()) {
+        return declined(9, 0);
+    }
+    put_plan(table, jobs, marks, starts, ends, tasks)
+}
+
+// Planning: any bytes get the reply of document 01. Where nothing is refused, the marks by position and the runs by start stand in the lent lists;
+// a refusal changes none of them.
+pub fn plan(
+    file: &[u8],
+    marks: &mut [u8],
+    starts: &mut [u32],
+    ends: &mut [u32],
+    tasks: &mut [u32],
+) -> Planned
+    ensures reply { λ r. ⌜ r ≡ planReply (now (file .entry)) (length (now (marks .entry))) (length (now (starts .entry))) (length (now (ends .entry))) (length (now (tasks .entry))) ⌝ }
+    ensures marks_after { λ r. ⌜ now (marks .exit) ≡ marksAfter (tableIn (now (file .entry))) (r .number) (now (marks .entry)) ⌝ }
+    ensures starts_after { λ r. ⌜ now (starts .exit) ≡ startsAfter (tableIn (now (file .entry))) (r .number) (now (starts .entry)) ⌝ }
+    ensures ends_after { λ r. ⌜ now (ends .exit) ≡ endsAfter (tableIn (now (file .entry))) (r .number) (now (ends .entry)) ⌝ }
+    ensures tasks_after { λ r. ⌜ now (tasks .exit) ≡ tasksAfter (tableIn (now (file .entry))) (r .number) (now (tasks .entry)) ⌝ }
+    ensures demand_2_refusal { λ r. ⌜ (readAnswer (now (file .entry)) ≡ Accepted → (r .number ≡ 8) ↔ NoRunning (tableIn (now (file .entry)))) ⌝ }
+    ensures demand_2_judge { λ r. ⌜ (r .number ≡ 0 → judged (now (file .entry)) (take (tableIn (now (file .entry)) .count) (now (marks .exit))) (take (r .runs) (now (starts .exit))) (take (r .runs) (now (ends .exit))) (take (r .runs) (now (tasks .exit))) ≡ judgeSays true (r .kept) (r .discarded)) ⌝ }
+    ensures demand_3 { λ r. ⌜ (r .number ≡ 0 → Optimal (tableIn (now (file .entry))) (take (tableIn (now (file .entry)) .count) (now (marks .exit))) (runsOf (take (r .runs) (now (starts .exit))) (take (r .runs) (now (ends .exit))) (take (r .runs) (now (tasks .exit)))) (r .discarded)) ⌝ }
+{
+    let read = reading::read(file);
+    let answer = read.answer;
+    let Answer::Accepted = answer else {
+        return declined(answer.number(), answer.place());
+    };
+    let table = read.table;
+    plan_table(table, marks, starts, ends, tasks)
+}
