@@ -1,15 +1,15 @@
 -- Laws of the way back: the decisions give the marks that are read back from the rows.
-use Prim.Native.Nat.{ℕ, zero, suc, _+_, _-_, _≤_, _<_, min}
+use Prim.Native.Nat.{ℕ, zero, suc, _+_, _-_, _≤_, _<_}
 use mathlib.Core.Path.{_≡_, refl, sym, ap, _∙_}
 use mathlib.Core.List.{List, [], _∷_}
 use mathlib.Core.Bool.{Bool, true, false}
 use native.Mathlib.Omega.{arith}
 use native.Mathlib.Numerals.{add-one}
-use lib.Dec.{leb, eqb}
+use lib.Dec.{eqb}
 use lib.ListN.{length, getD, set, drop, replicate}
 use borrow.Author.Tests.{leb-true, leb-false, eq-eqb, ne-eqb}
 use Rattle.base.specs.Limits.{maxTasks}
-use Rattle.base.specs.Places.{placesFrom, places, firstPlaces}
+use Rattle.base.specs.Places.{places, firstPlaces}
 use Rattle.base.proofs.PlaceLaws.{places-length, places-is, left-start, left-step}
 use Rattle.base.proofs.Filling.{Filled, filled-start, filled-set}
 use Rattle.schedule.specs.declared.Job.{Job}

@@ -1,8 +1,8 @@
 -- Laws of the rows that the code builds, from the innermost job outwards, and of the best worth that it finds in the last.
 use Prim.Native.Nat.{ℕ, zero, suc, _+_, _*_, _-_, _≤_, _<_, min}
-use mathlib.Core.Path.{_≡_, refl, sym, ap, _∙_}
+use mathlib.Core.Path.{_≡_, refl, sym, _∙_}
 use mathlib.Core.List.{List, [], _∷_}
-use mathlib.Core.Bool.{Bool, true, false}
+use mathlib.Core.Bool.{true, false}
 use native.Mathlib.Omega.{arith}
 use native.Mathlib.Decide.{ℕ-discrete}
 use lib.Dec.{ltb}
@@ -14,8 +14,8 @@ use Rattle.base.proofs.PlaceLaws.{left-step, left-end}
 use Rattle.schedule.specs.declared.Job.{Job}
 use Rattle.schedule.specs.Jobs.{Bounded, counts}
 use Rattle.choice.specs.declared.Decisions.{Decisions}
-use Rattle.choice.specs.Choice.{fits, keepNone, countOne, kept, discarded, chosen}
-use Rattle.choice.specs.Rows.{mandatorySum, outermostTicks, allWorth, keeping, row, greatest, bestWorth, byRows}
+use Rattle.choice.specs.Choice.{windowTicks, fits, keepNone, countOne, kept, discarded, chosen}
+use Rattle.choice.specs.Rows.{mandatorySum, outermostTicks, allWorth, within, keeping, row, greatest, bestWorth, byRows}
 use Rattle.choice.specs.Decisions.{rowPlaces, hugeTicks, rowOf, backOf, outerRow, keepsOver, jobsFrom, noDecisions, Decided}
 use Rattle.choice.proofs.PickLaws.{pick-cases}
 use Rattle.choice.proofs.RowLaws.{row-most}
@@ -25,6 +25,12 @@ use Rattle.choice.proofs.ChoiceLaws.{chosen-rows, chosen-keeps}
 -- an optional part counts 1 at most
 pub countOne-most : (job : Job) → countOne job ≤ 1
 countOne-most job = pick-cases (λ n. n ≤ 1) (counts job) (λ e. omega arith) (λ e. omega arith)
+
+-- a number of the row outside, from the window, and the ticks with the job kept and with it discarded
+pub outer-made : (job : Job) (mandatory : ℕ) (inner : ℕ → ℕ) (v window with r : ℕ) → window ≡ windowTicks job
+    → with ≡ keeping countOne hugeTicks job inner v → r ≡ within hugeTicks mandatory window (min with (inner v)) → r ≡ outerRow job mandatory inner v
+unfolding outerRow
+outer-made job mandatory inner v window with r e k m = m ∙ rw (e, k)
 
 -- what the row outside is made of: the row inside, up to v
 keeping-same : (job : Job) (f g : ℕ → ℕ) (v : ℕ) → ((k : ℕ) → k ≤ v → f k ≡ g k)

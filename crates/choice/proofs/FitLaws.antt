@@ -25,7 +25,7 @@ pub fits-head : (job : Job) (jobs : List Job) (keep : Bool) (keeps : List Bool) 
     → workWith job keep + totalWork jobs keeps ≤ windowTicks job
 unfolding fits
 fits-head job jobs keep keeps e =
-    leb-true _ _ (and-left (leb (workWith job keep + totalWork jobs keeps) (windowTicks job)) (fits jobs keeps) e)
+    leb-true _ _ (and-left (leb (workWith job keep + totalWork jobs keeps) (windowTicks job)) _ e)
 
 -- and the rest of the list fits
 pub fits-tail : (job : Job) (jobs : List Job) (keep : Bool) (keeps : List Bool) → fits (job ∷ jobs) (keep ∷ keeps) ≡ true → fits jobs keeps ≡ true

@@ -15,16 +15,16 @@ rows-of-requires c κs = search needs
 most-kept-requires : tie.Need-most-kept-requires
 most-kept-requires c κs = search needs
 
--- the most parts that a list keeps are not more than all
-most-all : (c : tie.After-most-kept) → c .most-kept .result ≤ c .before .before .before .rows-of .result .all
-most-all c = rw (c .most-kept .ensures) (greatest-most _ _)
-
--- and they give the chosen list
+-- the most parts that a list keeps give the chosen list
 found : (c : tie.After-most-kept) → Gives (firstPlaces noJob (c .before .before .before .before .args .jobs) (c .before .before .before .before .args .count)) (c .most-kept .result)
 found c =
     let pre = c .before .before .before .before .pre in
     let rows = c .before .before .before .rows-of .ensures in
     best-gives _ _ (outermost-small _ _ (pre .1 .0)) (pre .1 .1) (most-best _ _ (c .before .before .before .rows-of .result .ticks) _ _ (rows .0) (rows .3) (rows .2) (c .most-kept .ensures))
+
+-- and are not more than all
+most-all : (c : tie.After-most-kept) → c .most-kept .result ≤ c .before .before .before .rows-of .result .all
+most-all c = rw (c .most-kept .ensures) (greatest-most _ _)
 
 read-back-requires : tie.Need-read-back-requires
 read-back-requires c κs =

@@ -23,10 +23,14 @@ shared-slice-read-result : tie.Need-shared-slice-read-result
 shared-slice-read-result c = search needs
 
 add-result : tie.Need-add-result
-add-result c = omega (arith, c .before .before .before .before .before .pre .1 .1 (c .before .before .before .before .before .args .v - c .before .before .before .worth .result) (omega arith))
+add-result c =
+    let start = c .before .before .before .before .before in
+    omega (arith, start .pre .1 .1 (start .args .v - c .before .before .before .worth .result) (omega arith))
 
 returns-2 : tie.Need-returns-2
-returns-2 c = rw (keeping-enough countOne hugeTicks (c .before .before .before .before .before .args .job) (λ k. getD (c .before .before .before .before .before .args .inner .now) k 0) (c .before .before .before .before .before .args .v) (omega arith), c .before .before .before .worth .ensures)
+returns-2 c =
+    let args = c .before .before .before .before .before .args in
+    rw (keeping-enough countOne hugeTicks (args .job) (λ k. getD (args .inner .now) k 0) (args .v) (omega arith), c .before .before .before .worth .ensures)
 
 pub kept-ticks-spec : {M : Type 1} → statement M
 kept-ticks-spec =

@@ -1,12 +1,12 @@
 -- `choice::next_row` meets its contract. The loop's invariant: the places below `v` hold their numbers and decisions.
-use Prim.Native.Nat.{ℕ, _+_, _-_, _≤_}
-use mathlib.Core.Path.{_≡_, sym, _∙_, ap}
+use Prim.Native.Nat.{_+_, _-_, _≤_}
 use mathlib.Core.Bool.{false}
 use native.Mathlib.Omega.{arith}
 use borrow.Author.Needs.{needs}
 use lib.ListN.{getD}
 use Rattle.base.proofs.Filling.{Filled, filled-start, filled-set}
 use Rattle.choice.specs.Decisions.{rowPlaces, outerRow, keepsOver}
+use Rattle.choice.proofs.BuildLaws.{outer-made}
 use Rattle.choice.proofs.next_row.Statement.{statement}
 use Rattle.choice.proofs.next_row.Tie as tie
 
@@ -57,12 +57,13 @@ loop-less : tie.Need-loop-less Inv-loop μ-loop
 loop-less c = omega arith
 
 loop-again : tie.Need-loop-again Inv-loop μ-loop
-unfolding outerRow keepsOver
+unfolding keepsOver
 loop-again c =
-    let inv = c .before .before .before .before .loop .inv in (
+    let inv = c .before .before .before .before .loop .inv in
+    let inner = c .before .before .before .before .before .before .before .args .inner .now in (
       omega arith,
       filled-set _ _ _ _ _ _ _ (omega arith) (omega arith)
-          (c .least-within .ensures ∙ rw (c .before .before .before .before .before .window-ticks .ensures, c .before .before .kept-ticks .ensures))
+          (outer-made _ _ (λ k. getD inner k 0) _ _ _ _ (c .before .before .before .before .before .window-ticks .ensures) (c .before .before .kept-ticks .ensures) (c .least-within .ensures))
           (inv .1),
       filled-set _ _ _ _ _ _ _ (omega arith) (omega arith) (rw (c .before .before .kept-ticks .ensures)) (inv .2),
     )

@@ -1,10 +1,9 @@
 -- `choice::rows_of` meets its contract: the rows are built from the innermost job outwards.
-use Prim.Native.Nat.{ℕ, _+_, _-_, _≤_}
-use mathlib.Core.Path.{_≡_, sym, _∙_}
+use Prim.Native.Nat.{_+_, _-_}
+use mathlib.Core.Path.{_≡_, sym}
 use native.Mathlib.Omega.{arith}
 use borrow.Author.Needs.{needs}
 use lib.ListN.{getD}
-use Rattle.base.specs.Places.{firstPlaces}
 use Rattle.base.proofs.PlaceLaws.{left-start}
 use Rattle.schedule.specs.Jobs.{noJob}
 use Rattle.choice.proofs.BuildLaws.{countOne-most, Built, built-start, built-below, built-step}
