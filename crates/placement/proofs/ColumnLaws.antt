@@ -16,6 +16,7 @@ module _ (part : Run → ℕ) (runs : List Run) (count : ℕ) (old : List ℕ) w
   unfoldable pub partsFrom : ℕ → List ℕ
   partsFrom k = map part (reverse (firstPlaces noRun runs (count - k))) ++ drop count old
 
+  -- the column keeps its length
   parts-length : count ≤ length old → length (partsFrom 0) ≡ length old
   unfolding partsFrom
   parts-length h =

@@ -46,12 +46,13 @@ module _ (jobs : List Job) (keeps : List Bool) (count : ℕ) where
   pub count-few : (i n : ℕ) (runs : List Run) → firstPlaces noRun runs n ≡ runsFrom i → n ≤ 2 * (count - i) - 1
   count-few i n runs e = omega (arith, from-few i, sym (places-length (λ k. getD runs k noRun) n) ∙ ap length e)
 
-  -- one job more is filled in
+  -- the runs from place i on are those from the next, with job i filled in
   from-step : (i : ℕ) → i < count
       → runsFrom i ≡ fill (getD jobs i noJob .position) (getD jobs i noJob .release) (runsFrom (i + 1)) (getD jobs i noJob .deadline) (workWith (getD jobs i noJob) (getD keeps i false))
   unfolding runsFrom filled
   from-step i h = rw (left-step (λ k. getD jobs k noJob) count i h, left-step (λ k. getD keeps k false) count i h)
 
+  -- the same a place earlier, as a turn of the loop has it: `runs` are those from place i on, and w is the work of the job before
   pub from-next : (i w : ℕ) (runs : List Run) → 0 < i → i ≤ count → runs ≡ runsFrom i → w ≡ workWith (getD jobs (i - 1) noJob) (getD keeps (i - 1) false)
       → fill (getD jobs (i - 1) noJob .position) (getD jobs (i - 1) noJob .release) runs (getD jobs (i - 1) noJob .deadline) w ≡ runsFrom (i - 1)
   from-next i w runs l h e f =

@@ -76,7 +76,8 @@ fn fill_job(list: RunList, job: Job, work: u32) -> RunList
     let mut k: usize = 0;
     while k < count {
         let run = old[k];
-        let ticks = gap_ticks(run.end, top, left);
+        let bottom = run.end;
+        let ticks = gap_ticks(bottom, top, left);
         if 0 < ticks {
             runs[size] = run_below(top, ticks, task);
             size += 1;

@@ -27,6 +27,7 @@ use table::Answer;
 use table::Table;
 
 // The reply of planning: the refusal's number and place; or 0, the counts kept and discarded, and the number of runs.
+#[repr(C)]
 pub struct Planned {
     pub number: u32,
     pub place: usize,

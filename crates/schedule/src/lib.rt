@@ -48,6 +48,7 @@ pub const NO_RUN: Run = Run {
 };
 
 // The reply of judging: the refusal's number and place; or 0, the verdict, and with a yes the counts kept and discarded.
+#[repr(C)]
 pub struct Judged {
     pub number: u32,
     pub place: usize,
@@ -57,6 +58,7 @@ pub struct Judged {
 }
 
 // The reply of the busy count: the refusal's number and place, or 0 and the sum.
+#[repr(C)]
 pub struct Busy {
     pub number: u32,
     pub place: usize,

@@ -26,6 +26,7 @@ pub const HEADER_WIDTH: usize = COUNT_WIDTH + 2 * PERIOD_WIDTH;
 pub const TASK_WIDTH: usize = 2 * FRAME_WIDTH + 2 * TICKS_WIDTH;
 
 // A task: its window in frames, and its two lengths in ticks.
+#[repr(C)]
 pub struct Task {
     pub release: u32,
     pub deadline: u32,
@@ -42,6 +43,7 @@ pub const NO_TASK: Task = Task {
 };
 
 // A table: how many tasks it has, its period p/q, and places for its tasks.
+#[repr(C)]
 pub struct Table {
     pub count: u32,
     pub p: u32,
@@ -75,6 +77,7 @@ pub struct Reading {
 }
 
 // The reply of writing and of moving: the refusal's number and place, or 0 and the number of bytes written.
+#[repr(C)]
 pub struct Written {
     pub number: u32,
     pub place: usize,

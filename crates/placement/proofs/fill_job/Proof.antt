@@ -27,7 +27,7 @@ at-gap : (c : tie.After-gap-ticks Inv-loop μ-loop)
 at-gap c =
     let a = c .before .before .before .before .before .args in
     let l : c .before .before .before .loop .k < a .list .count = omega arith in
-    fill-run _ _ _ _ _ _ _ _ _ _ l (c .gap-ticks .ensures) (c .before .before .before .loop .inv .1)
+    fill-run (a .list .runs) (a .list .count) (a .job) (a .work) _ _ _ _ _ _ l (c .gap-ticks .ensures) (c .before .before .before .loop .inv .1)
 
 -- after the test: what is behind the gap is left
 at-run : (c : tie.After-row-known Inv-loop μ-loop)
@@ -37,8 +37,10 @@ at-run : (c : tie.After-row-known Inv-loop μ-loop)
     Stored (whole (a .list .runs) (a .list .count) (a .job) (a .work))
     (behind (a .list .runs) (a .list .count) (a .job) (a .work) (l .k) (l .left) n) (c .before .if1 .size) (c .before .if1 .runs)
 at-run c =
+    let i = c .before .before .before .before .before .before .before .args .job .position in
+    let top = c .before .before .before .before .before .loop .top in
     ⊎-elim
-    (λ w. rw (w .2, w .3) (stored-next _ _ _ _ _ (gap-some _ _ _ _ _ _ _ _ (w .0 .taken) (w .1 .ensures) (at-gap (c .before .before)))))
+    (λ w. rw (w .2, w .3) (stored-next _ _ _ _ _ (gap-some _ _ i top _ _ _ _ (w .0 .taken) (w .1 .ensures) (at-gap (c .before .before)))))
     (λ w. rw (w .1, w .2) (gap-none _ _ _ _ _ _ _ (w .0 .left) (at-gap (c .before .before))))
     (c .before .if1 .came)
 
@@ -104,8 +106,9 @@ at-last : (c : tie.After-gap-ticks2 Inv-loop μ-loop)
     Stored (whole (a .list .runs) (a .list .count) (a .job) (a .work))
     (addRun (a .job .position) (l .top) (c .gap-ticks2 .result) []) (l .size) (l .runs)
 at-last c =
-    let l : c .before .before .before .before .args .list .count ≤ c .before .before .loop .k = omega arith in
-    fill-last _ _ _ _ _ _ _ _ _ _ l (c .gap-ticks2 .ensures) (c .before .before .loop .inv .1)
+    let a = c .before .before .before .before .args in
+    let l : a .list .count ≤ c .before .before .loop .k = omega arith in
+    fill-last (a .list .runs) (a .list .count) (a .job) (a .work) _ _ _ _ _ _ l (c .gap-ticks2 .ensures) (c .before .before .loop .inv .1)
 
 run-below-requires-2 : tie.Need-run-below-requires-2 Inv-loop μ-loop
 run-below-requires-2 c κs = search needs
