@@ -12,11 +12,11 @@ use Rattle.base.specs.Limits.{maxTasks}
 use Rattle.base.specs.Places.{places, firstPlaces}
 use Rattle.base.proofs.PlaceLaws.{places-length, places-is, left-start, left-step}
 use Rattle.base.proofs.Filling.{Filled, filled-start, filled-set}
+use Rattle.base.proofs.TestLaws.{pick-cases}
 use Rattle.schedule.specs.declared.Job.{Job}
 use Rattle.choice.specs.Choice.{countOne}
 use Rattle.choice.specs.Rows.{keeping, backtrack}
 use Rattle.choice.specs.Decisions.{hugeTicks, rowOf, backOf, keepsOver, jobsFrom}
-use Rattle.choice.proofs.PickLaws.{pick-cases}
 use Rattle.choice.proofs.RowLaws.{row-is, keeping-is}
 
 -- the marks where a job is kept, and the row inside it, which is below huge

@@ -11,13 +11,13 @@ use lib.Seq.{getD-set-same, getD-set-other}
 use Rattle.base.specs.Limits.{maxTasks, maxTicks}
 use Rattle.base.specs.Places.{placesFrom, places}
 use Rattle.base.proofs.PlaceLaws.{left-step, left-end}
+use Rattle.base.proofs.TestLaws.{pick-cases}
 use Rattle.schedule.specs.declared.Job.{Job}
 use Rattle.schedule.specs.Jobs.{Bounded, counts}
 use Rattle.choice.specs.declared.Decisions.{Decisions}
 use Rattle.choice.specs.Choice.{windowTicks, fits, keepNone, countOne, kept, discarded, chosen}
 use Rattle.choice.specs.Rows.{mandatorySum, outermostTicks, allWorth, within, keeping, row, greatest, bestWorth, byRows}
 use Rattle.choice.specs.Decisions.{rowPlaces, hugeTicks, rowOf, backOf, outerRow, keepsOver, jobsFrom, noDecisions, Decided}
-use Rattle.choice.proofs.PickLaws.{pick-cases}
 use Rattle.choice.proofs.RowLaws.{row-most}
 use Rattle.choice.proofs.FitLaws.{ticks-outermost, worth-split}
 use Rattle.choice.proofs.ChoiceLaws.{chosen-rows, chosen-keeps}

@@ -8,13 +8,12 @@ use native.Mathlib.Omega.{arith}
 use lib.ListN.{length, getD}
 use borrow.Author.Tests.{ltb-true}
 use Rattle.base.specs.Tests.{and}
-use Rattle.base.proofs.TestLaws.{both-absurd, and-left, and-right}
+use Rattle.base.proofs.TestLaws.{both-absurd, and-left, and-right, pick-cases, and-not-second}
 use Rattle.schedule.specs.declared.Job.{Job}
 use Rattle.schedule.specs.Jobs.{noJob, counts}
 use Rattle.choice.specs.Choice.{fits, keepLists, keepNone, keptTicks, discardMarks, lexLess, discardedWorth, keptWorth}
 use Rattle.choice.specs.Choice.{key, better, best, chosenBy, KeepsFirst, Taken, counted, chosen, ZeroKept}
 use Rattle.choice.specs.Rows.{outermostTicks, allWorth, row, backtrack, bestWorth, byRows}
-use Rattle.choice.proofs.PickLaws.{pick-cases, and-not-second}
 use Rattle.choice.proofs.OrderLaws.{LexAtMost, atMost-refl, atMost-trans, less→atMost, notLess→atMost}
 use Rattle.choice.proofs.FitLaws.{fits-tail, fits-length, none-fits, ticks-outermost, worth-split}
 use Rattle.choice.proofs.RowLaws.{Keeps, row-least, backtrack-keeps, backtrack-first, greatest-is, backtrack-zero}

@@ -1,4 +1,3 @@
-pub mod PickLaws
 pub mod OrderLaws
 pub mod FitLaws
 pub mod RowLaws

@@ -6,9 +6,8 @@ use mathlib.Core.Bool.{true, false}
 use native.Mathlib.Omega.{arith}
 use lib.Dec.{ltb, eqb}
 use borrow.Author.Tests.{ltb-true, ltb-false, eqb-true, eq-eqb}
-use Rattle.base.proofs.TestLaws.{both-absurd, and-left, and-right}
+use Rattle.base.proofs.TestLaws.{both-absurd, and-left, and-right, picked, and-not-second}
 use Rattle.choice.specs.Choice.{lexLess}
-use Rattle.choice.proofs.PickLaws.{picked, and-not-second}
 
 -- the first list is less than the second or the same
 unfoldable pub LexAtMost : List ℕ → List ℕ → Type 0

@@ -8,11 +8,10 @@ use native.Mathlib.Nat.{zero-add, add-sub-cancel-left}
 use native.Mathlib.Omega.{arith}
 use lib.Dec.{leb, ltb, eqb}
 use borrow.Author.Tests.{leb-true, leb-false, ltb-true, ltb-false, eqb-true, eqb-false, le-leb, lt-leb, lt-ltb, le-ltb}
-use Rattle.base.proofs.TestLaws.{pick-true, pick-false, both-absurd}
+use Rattle.base.proofs.TestLaws.{pick-true, pick-false, both-absurd, pick-cases, picked}
 use Rattle.schedule.specs.declared.Job.{Job}
 use Rattle.choice.specs.Choice.{windowTicks, fits, keptTicks, discardMarks, keptWorth, ZeroKept}
 use Rattle.choice.specs.Rows.{mandatorySum, within, keeping, row, greatest, backtrack}
-use Rattle.choice.proofs.PickLaws.{pick-cases, picked}
 use Rattle.choice.proofs.OrderLaws.{LexAtMost}
 use Rattle.choice.proofs.FitLaws.{fits-tail, fits-room, room-fits}
 

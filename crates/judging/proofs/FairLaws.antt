@@ -108,22 +108,6 @@ discarded-same t marks job h =
     count-same (λ k. and (counts (job k)) (eqb (getD marks k 0) 0)) (λ k. and (counts (jobAt t k)) (eqb (getD marks k 0) 0)) (t .count)
     (λ k l. ap (λ (j : Job). and (counts j) (eqb (getD marks k 0) 0)) (h k l))
 
--- what columns that are not refused tell
-pub record Columns (starts ends tasks : List ℕ) : Type 0 where
-  pub few : length starts ≤ maxRuns
-  pub ends-are : length starts ≡ length ends
-  pub tasks-are : length starts ≡ length tasks
-
-pub columns-known : (starts ends tasks : List ℕ) → badColumns starts ends tasks ≡ false → Columns starts ends tasks
-unfolding badColumns
-columns-known starts ends tasks e =
-    let rest = or-right (ltb maxRuns (length starts)) (or (not (eqb (length starts) (length ends))) (not (eqb (length starts) (length tasks)))) e in
-    record {
-      few = ltb-false maxRuns (length starts) (or-left (ltb maxRuns (length starts)) (or (not (eqb (length starts) (length ends))) (not (eqb (length starts) (length tasks)))) e);
-      ends-are = eqb-true (length starts) (length ends) (not-false (eqb (length starts) (length ends)) (or-left (not (eqb (length starts) (length ends))) (not (eqb (length starts) (length tasks))) rest));
-      tasks-are = eqb-true (length starts) (length tasks) (not-false (eqb (length starts) (length tasks)) (or-right (not (eqb (length starts) (length ends))) (not (eqb (length starts) (length tasks))) rest));
-    }
-
 -- the reply, test by test, in the order of the refusals
 module _ (t : Table) (marks starts ends tasks : List ℕ) where
   pub length-refused : (length marks ≡ t .count → ⊥) → judgeDeclined 11 (t .count) ≡ judgeTable t marks starts ends tasks

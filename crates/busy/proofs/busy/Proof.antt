@@ -14,6 +14,7 @@ use Rattle.base.specs.Places.{placesFrom}
 use Rattle.base.proofs.PlaceLaws.{left-start, left-step, left-end}
 use Rattle.base.proofs.TestLaws.{pick-true, pick-false, or-left, or-right}
 use Rattle.schedule.specs.Runs.{runAt, runsOf, badColumns}
+use Rattle.schedule.proofs.RunLaws.{columns-known}
 use Rattle.schedule.specs.BusyCount.{shared, busySum, busyReply}
 use Rattle.busy.proofs.busy.Statement.{statement}
 use Rattle.busy.proofs.busy.Tie as tie
@@ -49,14 +50,6 @@ module _ (starts ends tasks : List ℕ) (a b : ℕ) where
       omega arith
 
 module _ (starts ends tasks : List ℕ) (bad : Bool) (e : bad ≡ badColumns starts ends tasks) where
-  -- columns that are not bad: few enough runs, and an end for each start
-  good-columns : bad ≡ false → (length starts ≤ maxRuns) × (length starts ≡ length ends)
-  unfolding badColumns
-  good-columns f =
-      let none = sym e ∙ f in
-      let equal = or-right (ltb maxRuns (length starts)) _ none in
-      (ltb-false _ _ (or-left _ _ none), eqb-true _ _ (not-false _ (or-left _ _ equal)))
-
   -- the two replies
   reply-refused : (a b : ℕ) → bad ≡ true → record { number = 13; place = 0; ticks = 0 } ≡ busyReply starts ends tasks a b
   unfolding busyReply
@@ -91,8 +84,8 @@ returns c =
 
 loop-holds : tie.Need-loop-holds Inv-loop μ-loop
 loop-holds c =
-    let good = good-columns _ _ _ _ (c .before .bad-columns .ensures) (c .if1 .left) in
-    (omega arith, good .0, good .1, omega arith, sum-start _ _ _ _ _)
+    let good = columns-known _ _ _ (sym (c .before .bad-columns .ensures) ∙ c .if1 .left) in
+    (omega arith, good .few, good .ends-are, omega arith, sum-start _ _ _ _ _)
 
 mul-shared-ticks : tie.Need-mul-shared-ticks Inv-loop μ-loop
 mul-shared-ticks c = omega arith

@@ -10,8 +10,9 @@ use Rattle.schedule.specs.declared.Judged.{Judged}
 use Rattle.schedule.specs.Jobs.{noJob, jobAt}
 use Rattle.schedule.specs.Runs.{badColumns, runsOf}
 use Rattle.schedule.specs.Judging.{verdict, keptCount, discardedCount, firstBadMark, judgeDeclined}
+use Rattle.schedule.proofs.RunLaws.{columns-known}
 use Rattle.schedule.proofs.JobLaws.{legal-period, legal-frames}
-use Rattle.judging.proofs.FairLaws.{fair-verdict, jobs-at, kept-same, discarded-same, Columns, columns-known, length-refused, mark-refused, columns-refused, says-yes, says-no}
+use Rattle.judging.proofs.FairLaws.{fair-verdict, jobs-at, kept-same, discarded-same, length-refused, mark-refused, columns-refused, says-yes, says-no}
 use Rattle.judging.proofs.judge_table.Statement.{statement}
 use Rattle.judging.proofs.judge_table.Tie as tie
 
