@@ -1,7 +1,7 @@
 -- Laws of tests and of what a test picks.
 
 use mathlib.Core.Path.{_≡_, refl, sym, subst, subst⁻¹}
-use mathlib.Core.Bool.{Bool, true, false, not}
+use mathlib.Core.Bool.{Bool, true, false}
 use lib.Dec.{T}
 use Rattle.base.specs.Tests.{pick, and, or}
 

@@ -1,6 +1,6 @@
 -- The lowest position such that: refusals name the place of a fault so.
-use Prim.Native.Nat.{ℕ, zero, suc, _+_}
-use mathlib.Core.Bool.{Bool, true, false}
+use Prim.Native.Nat.{ℕ, zero, suc}
+use mathlib.Core.Bool.{Bool}
 use lib.Dec.{ltb}
 use Rattle.base.specs.Tests.{pick}
 

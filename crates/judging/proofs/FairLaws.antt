@@ -5,14 +5,14 @@ use mathlib.Core.Bool.{Bool, true, false, not}
 use mathlib.Core.Logic.{_↔_}
 use mathlib.Core.List.{List, [], _∷_}
 use native.Mathlib.Omega.{arith}
-use lib.Dec.{leb, ltb, eqb}
+use lib.Dec.{ltb, eqb}
 use lib.ListN.{length, getD}
-use borrow.Author.Tests.{ltb-true, ltb-false, lt-ltb, le-ltb, eq-eqb, ne-eqb, eqb-true, not-false}
-use Rattle.base.specs.Limits.{maxTasks, maxRuns}
-use Rattle.base.specs.Tests.{pick, and, or}
-use Rattle.base.specs.Lowest.{lowest, someBelow}
+use borrow.Author.Tests.{ltb-true, lt-ltb, le-ltb, eq-eqb, ne-eqb}
+use Rattle.base.specs.Limits.{maxTasks}
+use Rattle.base.specs.Tests.{pick, and}
+use Rattle.base.specs.Lowest.{someBelow}
 use Rattle.base.specs.Places.{places}
-use Rattle.base.proofs.TestLaws.{cases, and-left, and-right, or-left, or-right}
+use Rattle.base.proofs.TestLaws.{cases, and-left, and-right}
 use Rattle.base.proofs.LowestLaws as lowest-laws
 use Rattle.base.proofs.PlaceLaws.{places-at}
 use Rattle.table.specs.declared.Table.{Table}

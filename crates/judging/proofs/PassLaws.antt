@@ -1,18 +1,18 @@
 -- The pass over the runs, from the first upwards.
-use Prim.Native.Nat.{ℕ, suc, _+_, _-_, _*_, _^_, _≤_, _<_}
+use Prim.Native.Nat.{ℕ, _+_, _-_, _*_, _^_, _≤_, _<_}
 use mathlib.Core.Path.{_≡_, refl, sym, ap, _∙_}
 use mathlib.Core.Bool.{Bool, true, false}
 use mathlib.Core.List.{List, [], _∷_}
 use native.Mathlib.Omega.{arith}
 use native.Mathlib.Decide.{ℕ-discrete, decLt}
-use lib.Dec.{leb, ltb, eqb}
+use lib.Dec.{leb, ltb}
 use lib.ListN.{length, getD, set, replicate, length-set, length-replicate, getD-replicate, List·getD-eq-default}
 use lib.Seq.{getD-set-same, getD-set-other}
-use borrow.Author.Tests.{ltb-true, le-ltb, lt-ltb, eq-eqb, ne-eqb}
+use borrow.Author.Tests.{le-ltb, lt-ltb, eq-eqb, ne-eqb}
 use Rattle.base.specs.Limits.{maxTasks}
-use Rattle.base.specs.Tests.{pick, and}
+use Rattle.base.specs.Tests.{and}
 use Rattle.base.specs.Places.{placesFrom, places}
-use Rattle.base.proofs.TestLaws.{and-true, and-left, and-right, same-test}
+use Rattle.base.proofs.TestLaws.{and-left, and-right, same-test}
 use Rattle.base.proofs.PlaceLaws.{left-start, left-step, left-end}
 use Rattle.schedule.specs.declared.Job.{Job}
 use Rattle.schedule.specs.declared.Run.{Run}

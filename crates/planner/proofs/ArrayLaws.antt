@@ -3,7 +3,6 @@ use Prim.Native.Nat.{ℕ, _-_, _*_, _≤_, _<_}
 use mathlib.Core.Path.{_≡_, refl, sym, ap, ap₂, _∙_}
 use mathlib.Core.Bool.{Bool, true, false}
 use mathlib.Core.List.{List, _++_, map, reverse}
-use native.Mathlib.Omega.{arith}
 use lib.Dec.{ltb}
 use lib.ListN.{length, getD, drop, length-map, length-reverse}
 use borrow.Author.Tests.{ltb-false}
@@ -16,8 +15,8 @@ use Rattle.table.specs.declared.Table.{Table}
 use Rattle.table.specs.Writing.{Legal}
 use Rattle.schedule.specs.declared.Job.{Job}
 use Rattle.schedule.specs.declared.Run.{Run}
-use Rattle.schedule.specs.Jobs.{noJob, jobAt, Bounded}
-use Rattle.schedule.specs.Runnings.{All, Any, Distinct}
+use Rattle.schedule.specs.Jobs.{noJob, Bounded}
+use Rattle.schedule.specs.Runnings.{Any, Distinct}
 use Rattle.schedule.specs.Runs.{noRun}
 use Rattle.schedule.proofs.JudgeLaws.{job-position, all-places}
 use Rattle.choice.specs.Choice.{fits, keepNone, chosen, kept, discarded}

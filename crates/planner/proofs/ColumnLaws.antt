@@ -1,13 +1,11 @@
 -- Laws of runs and their columns, and of what is read back from lent lists.
-use Prim.Native.Nat.{ℕ, _≤_, _<_}
-use mathlib.Core.Path.{_≡_, refl, sym, ap, _∙_}
-use mathlib.Core.Bool.{true, false}
-use mathlib.Core.List.{List, [], _∷_, _++_, map}
-use native.Mathlib.Omega.{arith}
-use lib.ListN.{length, getD, take, drop, length-map, List·getD-map}
+use Prim.Native.Nat.{_≤_}
+use mathlib.Core.Path.{_≡_, refl, sym}
+use mathlib.Core.Bool.{false}
+use mathlib.Core.List.{List, [], _∷_, _++_}
+use lib.ListN.{length, take, length-map, List·getD-map}
 use borrow.Author.Tests.{le-ltb, eq-eqb}
 use Rattle.base.specs.Limits.{maxRuns}
-use Rattle.base.specs.Places.{places}
 use Rattle.base.proofs.PlaceLaws.{places-is}
 use Rattle.schedule.specs.declared.Run.{Run}
 use Rattle.schedule.specs.Runs.{noRun, runAt, runsOf, badColumns}

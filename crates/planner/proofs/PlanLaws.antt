@@ -1,22 +1,19 @@
 -- Demands 2 and 3 as theorems about the definitions, for every accepted table.
-use Prim.Native.Nat.{ℕ, _+_, _-_, _*_, _≤_, _<_}
+use Prim.Native.Nat.{ℕ, _-_, _*_, _≤_, _<_}
 use mathlib.Core.Path.{_≡_, refl, sym, ap, fun-ext, _∙_}
 use mathlib.Core.Logic.{_↔_}
 use mathlib.Core.Bool.{Bool, true, false, not}
-use mathlib.Core.List.{List, [], _∷_, map}
+use mathlib.Core.List.{List}
 use native.Mathlib.Omega.{arith}
 use lib.Dec.{ltb, eqb}
-use lib.ListN.{length, getD, length-map}
-use borrow.Author.Tests.{ltb-true, ltb-false, lt-ltb, le-ltb, eq-eqb}
-use Rattle.base.specs.Limits.{maxTasks}
-use Rattle.base.specs.Tests.{pick, and}
-use Rattle.base.specs.Places.{places}
+use lib.ListN.{length, getD}
+use borrow.Author.Tests.{le-ltb, eq-eqb}
+use Rattle.base.specs.Tests.{and}
 use Rattle.base.proofs.TestLaws.{cases, both-absurd}
 use Rattle.base.proofs.LowestLaws.{none-passes}
 use Rattle.base.proofs.PlaceLaws.{places-length, places-at}
 use Rattle.table.specs.declared.Table.{Table}
 use Rattle.table.specs.declared.Answer.the-variants.{Accepted}
-use Rattle.table.specs.Answers.{isAccepted}
 use Rattle.table.specs.Reading.{tableIn, readAnswer}
 use Rattle.table.specs.Writing.{Legal}
 use Rattle.table.proofs.FileLaws.{legal-count}
@@ -24,20 +21,19 @@ use Rattle.table.proofs.RoundTrip.{read-legal}
 use Rattle.schedule.specs.declared.Job.{Job}
 use Rattle.schedule.specs.declared.Run.{Run}
 use Rattle.schedule.specs.Jobs.{jobAt, jobsOf, workOf, counts}
-use Rattle.schedule.specs.Ticks.{Owner}
-use Rattle.schedule.specs.Runnings.{All, got, Running, discards}
-use Rattle.schedule.specs.Runs.{ownerOf, Together, runsOf}
+use Rattle.schedule.specs.Runnings.{All, got, discards}
+use Rattle.schedule.specs.Runs.{ownerOf, Together}
 use Rattle.schedule.specs.Judging.{verdict, firstBadMark, judgeSays, judgeTable, judged, keptCount, discardedCount}
 use Rattle.schedule.proofs.JudgeLaws.{job-position, all-members, all-places, together-discards, judge-verdict}
 use Rattle.choice.specs.Choice.{fits, keepNone, chosen, kept, discarded}
 use Rattle.choice.proofs.ChoiceLaws.{chosen-length}
-use Rattle.placement.specs.Placing.{placed, stretches, outermostDeadline}
+use Rattle.placement.specs.Placing.{placed, outermostDeadline}
 use Rattle.placement.proofs.Best.{chosen-fits}
 use Rattle.placement.proofs.RunOrder.{placed-listed, placed-few}
 use Rattle.placement.proofs.FilledPlaces.{chain-deadlines}
 use Rattle.placement.proofs.PlanLaws.{SameMarks, placed-together}
 use Rattle.nesting.specs.NestOrder.{outermostFirst, jobsOutermostFirst}
-use Rattle.nesting.proofs.NestLaws.{order-below, nest-chain}
+use Rattle.nesting.proofs.NestLaws.{nest-chain}
 use Rattle.nesting.proofs.OrderLaws.{all-outermost, any-outermost, outermost-length, count-order}
 use Rattle.nesting.proofs.TableRunnings.{running-order, table-running-exists, table-discards, table-least, table-fewest}
 use Rattle.planner.specs.Planning.{firstExceeding, tooShort, keepList, markAt, planMarks, planRuns, startsOf, endsOf, tasksOf, planOf, planTable, planReply}

@@ -2,8 +2,8 @@
 use Prim.Native.Nat.{ℕ, _≤_, _<_}
 use mathlib.Core.Path.{_≡_, refl, sym, ap, _∙_}
 use mathlib.Core.Logic.{_↔_}
-use mathlib.Core.Bool.{Bool, true, false}
-use mathlib.Core.List.{List, _++_}
+use mathlib.Core.Bool.{true, false}
+use mathlib.Core.List.{List}
 use native.Mathlib.Omega.{arith}
 use lib.Dec.{ltb, eqb}
 use lib.ListN.{length, take, drop, length-map}
@@ -11,13 +11,11 @@ use borrow.Author.Tests.{lt-ltb, le-ltb, eqb-false}
 use Rattle.base.specs.Lent.{writtenFront, contentAfter}
 use Rattle.base.proofs.TestLaws.{cases}
 use Rattle.table.specs.declared.Table.{Table}
-use Rattle.table.specs.declared.Answer.{Answer}
 use Rattle.table.specs.declared.Answer.the-variants.{Accepted}
 use Rattle.table.specs.Answers.{numberOf, placeOf, isAccepted}
 use Rattle.table.specs.Reading.{tableIn, readAnswer}
 use Rattle.table.proofs.AnswerLaws.{refused-number, accepted-is}
 use Rattle.table.proofs.RoundTrip.{read-legal}
-use Rattle.schedule.specs.declared.Run.{Run}
 use Rattle.schedule.specs.Runs.{runsOf}
 use Rattle.schedule.specs.Judging.{judgeSays, judged}
 use Rattle.planner.specs.declared.Planned.{Planned}

@@ -1,12 +1,10 @@
 -- What the refusals that need no task come to, test by test, in their order.
 use Prim.Native.Nat.{ℕ, _≤_, _<_}
 use mathlib.Core.Path.{_≡_}
-use mathlib.Core.Bool.{Bool, true, false}
+use mathlib.Core.Bool.{true, false}
 use mathlib.Core.List.{List}
-use lib.Dec.{ltb}
 use lib.ListN.{length}
 use borrow.Author.Tests.{lt-ltb, le-ltb}
-use Rattle.table.specs.declared.Answer.{Answer}
 use Rattle.table.specs.declared.Answer.the-variants.{Accepted, Short, Count, Long, Padding, Period}
 use Rattle.table.specs.Layout.{fileLength, badCount, badPeriod}
 use Rattle.table.specs.Reading.{countIn, pIn, qIn, paddingSet, headAnswer}

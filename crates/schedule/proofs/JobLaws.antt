@@ -1,17 +1,14 @@
 -- Laws of the jobs of a table.
-use Prim.Native.Nat.{ℕ, _+_, _*_, _≤_, _<_, _^_}
-use mathlib.Core.Path.{_≡_}
+use Prim.Native.Nat.{ℕ, _*_, _≤_, _<_}
 use native.Mathlib.Omega.{arith}
 use native.Mathlib.Nat.{mul-le-mul, le-refl, le-trans, div-le-self}
-use Rattle.base.specs.Limits.{lastFrame, maxPeriod, maxTicks, lastTick}
+use Rattle.base.specs.Limits.{lastFrame, maxPeriod, lastTick}
 use Rattle.clock.specs.Clock.{releaseTick, deadlineTick, LegalPeriod}
-use Rattle.clock.proofs.ClockLaws.{release-least, deadline-not-after}
-use Rattle.table.specs.declared.Task.{Task}
+use Rattle.clock.proofs.ClockLaws.{release-least}
 use Rattle.table.specs.declared.Table.{Table}
 use Rattle.table.specs.Tables.{taskAt}
-use Rattle.table.specs.Layout.{badPeriod}
 use Rattle.table.specs.Writing.{Legal}
-use Rattle.table.proofs.FileLaws.{narrow-known, Narrow, period-known}
+use Rattle.table.proofs.FileLaws.{narrow-known, period-known}
 use Rattle.schedule.specs.Jobs.{jobOf, jobAt, Bounded}
 
 -- the tick of a frame is at most the greatest

@@ -1,7 +1,6 @@
 -- The busy count of an interval from a to b: over all runs, the ticks that the run shares with the interval.
 use Prim.Native.Nat.{ℕ, _+_, _-_, min, max}
 use mathlib.Core.List.{List, [], _∷_}
-use mathlib.Core.Bool.{Bool}
 use Rattle.base.specs.Tests.{pick}
 use Rattle.schedule.specs.declared.Busy.{Busy}
 use Rattle.schedule.specs.declared.Run.{Run}

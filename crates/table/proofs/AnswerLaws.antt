@@ -1,8 +1,8 @@
 -- What a `let .. else` on an answer of reading tells.
 use Prim.Native.Nat.{ℕ}
 use mathlib.Core.Path.{_≡_, refl}
-use mathlib.Core.Bool.{Bool, true, false}
-use mathlib.Core.List.{List, [], _∷_}
+use mathlib.Core.Bool.{true, false}
+use mathlib.Core.List.{[], _∷_}
 use lib.Dec.{eqb}
 use Rattle.base.proofs.TestLaws.{both-absurd}
 use types.Run.{OneOf, miss}

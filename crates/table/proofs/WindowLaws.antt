@@ -1,7 +1,7 @@
 -- Laws of the rules for windows.
 use Prim.Native.Nat.{ℕ, _≤_, _<_}
-use mathlib.Core.Path.{_≡_, sym}
-use mathlib.Core.Bool.{Bool, true, false, not}
+use mathlib.Core.Path.{_≡_}
+use mathlib.Core.Bool.{true, false, not}
 use Rattle.base.proofs.LowestLaws.{Searched, search-none, some-passes}
 use Rattle.table.specs.declared.Table.{Table}
 use Rattle.table.specs.Tables.{taskAt}

@@ -1,7 +1,6 @@
 -- Table values. A table has places for 64 tasks, of which the first `count` hold its tasks; tasks are numbered from 0 by position.
 use Prim.Native.Nat.{ℕ, _<_}
 use mathlib.Core.Path.{_≡_}
-use mathlib.Core.Bool.{Bool, true, false}
 use lib.Dec.{ltb}
 use lib.ListN.{getD}
 use Rattle.base.specs.Limits.{maxTasks}

@@ -6,13 +6,11 @@ use mathlib.Core.Bool.{Bool, true, false}
 use mathlib.Core.List.{List}
 use native.Mathlib.Omega.{arith}
 use borrow.Author.Needs.{needs}
-use borrow.Author.Tests.{ltb-false, eqb-true, not-false}
-use lib.Dec.{ltb}
 use lib.ListN.{length, getD}
 use Rattle.base.specs.Limits.{maxRuns}
 use Rattle.base.specs.Places.{placesFrom}
 use Rattle.base.proofs.PlaceLaws.{left-start, left-step, left-end}
-use Rattle.base.proofs.TestLaws.{pick-true, pick-false, or-left, or-right}
+use Rattle.base.proofs.TestLaws.{pick-true, pick-false}
 use Rattle.schedule.specs.Runs.{runAt, runsOf, badColumns}
 use Rattle.schedule.proofs.RunLaws.{columns-known}
 use Rattle.schedule.specs.BusyCount.{shared, busySum, busyReply}

@@ -1,9 +1,8 @@
 -- `exports::planner_read` meets its contract: the parts of the reply of `reading::read`.
-use mathlib.Core.Path.{_≡_, ap, _∙_}
+use mathlib.Core.Path.{ap}
 use borrow.Author.Needs.{needs}
 use Rattle.table.specs.declared.Reading.{Reading}
 use Rattle.table.specs.Answers.{numberOf, placeOf}
-use Rattle.table.specs.Reading.{reading}
 use Rattle.exports.specs.declared.TableRead.{TableRead}
 use Rattle.exports.specs.FileRead.{tableRead}
 use Rattle.exports.proofs.planner_read.Statement.{statement}

@@ -1,6 +1,5 @@
 -- `exports::planner_shift` meets its contract: that of `moving::shift`, with the signed number passed on.
-use mathlib.Core.Path.{_≡_, ap, _∙_}
-use mathlib.Core.List.{List}
+use mathlib.Core.Path.{ap, _∙_}
 use borrow.Author.Needs.{needs}
 use lib.IntN.{ℤ}
 use lib.ListN.{length}

@@ -1,6 +1,5 @@
 -- `judging::first_bad_mark` meets its contract: a search from the first mark upwards.
 use Prim.Native.Nat.{_-_}
-use mathlib.Core.Path.{_≡_}
 use native.Mathlib.Omega.{arith}
 use borrow.Author.Tests.{lt-ltb, le-ltb}
 use lib.Dec.{ltb}

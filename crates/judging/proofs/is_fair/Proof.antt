@@ -1,5 +1,5 @@
 -- `judging::is_fair` meets its contract.
-use mathlib.Core.Path.{_≡_, _∙_, sym}
+use mathlib.Core.Path.{_∙_, sym}
 use borrow.Author.Needs.{needs}
 use lib.ListN.{getD}
 use Rattle.schedule.specs.Jobs.{noJob}

@@ -1,7 +1,7 @@
 -- `judging::judge_table` meets its contract: each return knows the tests that led there, in their order.
 use Prim.Native.Nat.{ℕ, _≤_, _<_}
 use mathlib.Core.Path.{_≡_, _∙_, sym, ap}
-use mathlib.Core.Bool.{Bool, true, false}
+use mathlib.Core.Bool.{true, false}
 use native.Mathlib.Omega.{arith}
 use borrow.Author.Needs.{needs}
 use lib.ListN.{length, getD}
@@ -9,7 +9,7 @@ use Rattle.table.proofs.FileLaws.{legal-count}
 use Rattle.schedule.specs.declared.Judged.{Judged}
 use Rattle.schedule.specs.Jobs.{noJob, jobAt}
 use Rattle.schedule.specs.Runs.{badColumns, runsOf}
-use Rattle.schedule.specs.Judging.{verdict, keptCount, discardedCount, firstBadMark, judgeDeclined}
+use Rattle.schedule.specs.Judging.{verdict, firstBadMark, judgeDeclined}
 use Rattle.schedule.proofs.RunLaws.{columns-known}
 use Rattle.schedule.proofs.JobLaws.{legal-period, legal-frames}
 use Rattle.judging.proofs.FairLaws.{fair-verdict, jobs-at, kept-same, discarded-same, length-refused, mark-refused, columns-refused, says-yes, says-no}

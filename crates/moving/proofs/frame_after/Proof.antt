@@ -1,5 +1,5 @@
 -- `moving::frame_after` meets its contract.
-use mathlib.Core.Path.{_≡_, _∙_, sym, ap}
+use mathlib.Core.Path.{_∙_, sym, ap}
 use lib.IntN.{ℤ}
 use borrow.Author.Needs.{needs}
 use Rattle.base.proofs.TestLaws.{both-absurd}

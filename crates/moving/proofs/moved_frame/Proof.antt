@@ -1,17 +1,14 @@
 -- `moving::moved_frame` meets its contract: the sum does not wrap, and both ends of the range are tested.
-use Prim.Native.Nat.{ℕ, _^_, _<_}
-use mathlib.Core.Path.{_≡_, _∙_, sym, ap, subst}
-use mathlib.Core.Bool.{Bool, true, false}
+use Prim.Native.Nat.{_^_, _<_}
+use mathlib.Core.Path.{_≡_, _∙_, sym, ap}
 use native.Mathlib.Omega.{arith}
 use borrow.Author.Needs.{needs}
-use lib.Dec.{T}
-use lib.IntN.{ℤ, pos, natAbs, _+ℤ_}
-use lib.Signed.{ltZ, nonNeg}
+use lib.IntN.{ℤ, pos, _+ℤ_}
+use lib.Signed.{ltZ}
 use mir.Syntax.{w32, w64}
-use mir.Val.{SFits, Fits, toZ, ofZ}
+use mir.Val.{SFits, toZ, ofZ}
 use mir.Facts.{toZ-ofZ, sfits-widen}
 use Rattle.table.specs.Moving.{movedFrame}
-use Rattle.moving.specs.declared.Moved.the-variants.{Frame}
 use Rattle.moving.proofs.ShiftLaws.{sum-is, moved-fits, moved-back, below-outside, above-outside, Inside, inside}
 use Rattle.moving.proofs.moved_frame.Statement.{statement}
 use Rattle.moving.proofs.moved_frame.Tie as tie

@@ -1,7 +1,6 @@
 -- `moving::moved_table` meets its contract. The loop's invariant: the places below `i` hold their moved tasks.
-use Prim.Native.Nat.{ℕ, _+_, _-_, _≤_, _<_}
-use mathlib.Core.Path.{_≡_, _∙_, sym, ap}
-use mathlib.Core.Bool.{false}
+use Prim.Native.Nat.{_-_, _≤_}
+use mathlib.Core.Path.{_∙_, ap}
 use native.Mathlib.Omega.{arith}
 use borrow.Author.Needs.{needs}
 use lib.IntN.{ℤ}
@@ -10,7 +9,7 @@ use mir.Val.{toZ}
 use Rattle.base.specs.Limits.{maxTasks}
 use Rattle.base.proofs.LowestLaws.{before}
 use Rattle.table.specs.Tables.{noTask, taskAt}
-use Rattle.table.specs.Moving.{movedTask, movedOutside, firstOutside, movedTable}
+use Rattle.table.specs.Moving.{movedTask, movedOutside, movedTable}
 use Rattle.base.proofs.Filling.{Filled, filled-start, filled-set}
 use Rattle.moving.proofs.ShiftLaws.{as-passed}
 use Rattle.moving.proofs.MoveLaws.{none-outside, moved-filled}

@@ -1,5 +1,5 @@
 -- `moving::moves_outside` meets its contract: the release frame is looked at first, and then the deadline frame.
-use mathlib.Core.Path.{_≡_, _∙_, sym, ap}
+use mathlib.Core.Path.{_∙_, sym, ap}
 use lib.IntN.{ℤ}
 use borrow.Author.Needs.{needs}
 use Rattle.table.specs.Moving.{movedFrame, movedOutside}

@@ -1,17 +1,16 @@
 -- `moving::shift` meets its contract: each return knows the tests that led there, in their order, and a refusal touches no byte.
-use Prim.Native.Nat.{ℕ, _≤_, _<_}
+use Prim.Native.Nat.{_≤_, _<_}
 use mathlib.Core.Path.{_≡_, refl, _∙_, sym, ap, ap₂}
-use mathlib.Core.Bool.{Bool, true, false}
 use native.Mathlib.Omega.{arith}
 use borrow.Author.Needs.{needs}
 use lib.IntN.{ℤ}
-use lib.ListN.{length, drop}
+use lib.ListN.{length}
 use Rattle.base.specs.Limits.{maxTasks}
 use Rattle.table.specs.declared.Table.{Table}
 use Rattle.table.specs.declared.Answer.the-variants.{Accepted}
 use Rattle.table.specs.Layout.{fileLength}
 use Rattle.table.specs.Answers.{numberOf, placeOf, isAccepted, declined, wrote}
-use Rattle.table.specs.Reading.{countIn, tableIn, readAnswer}
+use Rattle.table.specs.Reading.{tableIn, readAnswer}
 use Rattle.table.specs.Moving.{firstOutside, movedTable}
 use Rattle.table.proofs.AnswerLaws.{told-refused, refused-number}
 use Rattle.table.proofs.FileLaws.{legal-count}

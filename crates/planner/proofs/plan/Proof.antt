@@ -1,6 +1,5 @@
 -- `planner::plan` meets its contract: reading's refusals end the call and touch no list; what the table gets is what the file gets.
 use mathlib.Core.Path.{_≡_, sym, ap, ap₂, subst⁻¹, _∙_}
-use mathlib.Core.Bool.{false}
 use borrow.Author.Needs.{needs}
 use lib.Dec.{eqb}
 use lib.ListN.{length}

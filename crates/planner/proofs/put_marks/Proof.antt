@@ -1,10 +1,10 @@
 -- `planner::put_marks` meets its contract: each job's mark goes to its position, and every position has a job.
-use Prim.Native.Nat.{_+_, _-_, _≤_, _<_}
+use Prim.Native.Nat.{_-_, _≤_, _<_}
 use mathlib.Core.Path.{_≡_, sym, ap, _∙_}
 use mathlib.Core.Logic.{⊎-elim}
 use mathlib.Core.Bool.{false}
 use native.Mathlib.Omega.{arith}
-use lib.ListN.{length, getD}
+use lib.ListN.{getD}
 use Rattle.schedule.specs.Jobs.{noJob}
 use Rattle.schedule.specs.Ticks.{one}
 use Rattle.planner.proofs.MarkLaws.{Marked, marked-start, marked-put, marked-end}

@@ -1,6 +1,5 @@
 -- `planner::put_plan` meets its contract: the calls follow one another, and what each array holds is what the definitions say.
-use Prim.Native.Nat.{_≤_}
-use mathlib.Core.Path.{_≡_, _∙_}
+use mathlib.Core.Path.{_∙_}
 use native.Mathlib.Omega.{arith}
 use borrow.Author.Needs.{needs}
 use lib.ListN.{length}

@@ -1,5 +1,4 @@
 -- `planner::too_short` meets its contract.
-use native.Mathlib.Omega.{arith}
 use borrow.Author.Needs.{needs}
 use borrow.Author.Tests.{lt-ltb, le-ltb}
 use Rattle.planner.specs.Planning.{tooShort}

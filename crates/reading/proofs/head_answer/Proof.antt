@@ -1,14 +1,14 @@
 -- `reading::head_answer` meets its contract: each return knows the tests that led there, in their order.
-use Prim.Native.Nat.{ℕ, _≤_, _<_}
+use Prim.Native.Nat.{_≤_}
 use mathlib.Core.Path.{_≡_, _∙_, sym, ap, ap₂}
-use mathlib.Core.Bool.{Bool, true, false}
+use mathlib.Core.Bool.{false}
 use native.Mathlib.Omega.{arith}
 use borrow.Author.Needs.{needs}
 use lib.ListN.{length}
 use Rattle.base.specs.Limits.{maxTasks}
 use Rattle.table.specs.declared.Answer.the-variants.{Long}
 use Rattle.table.specs.Layout.{fileLength, badCount, badPeriod}
-use Rattle.table.specs.Reading.{countIn, pIn, qIn, paddingSet}
+use Rattle.table.specs.Reading.{countIn, paddingSet}
 use Rattle.table.proofs.FileLaws.{count-known}
 use Rattle.reading.proofs.HeadLaws.{under-four, count-bad, too-short, too-long, padding-bad, period-bad, nothing-bad}
 use Rattle.reading.proofs.head_answer.Statement.{statement}

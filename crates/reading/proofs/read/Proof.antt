@@ -1,5 +1,4 @@
 -- `reading::read` meets its contract: the header's answer, else the windows' answer, else the table.
-use Prim.Native.Nat.{ℕ, _≤_}
 use mathlib.Core.Path.{_≡_, _∙_, sym, ap}
 use native.Mathlib.Omega.{arith}
 use borrow.Author.Needs.{needs}
@@ -12,7 +11,7 @@ use Rattle.table.specs.Reading.{countIn, headAnswer}
 use Rattle.table.specs.Layout.{taskStart, fileLength}
 use Rattle.table.proofs.AnswerLaws.{told-refused}
 use Rattle.table.proofs.FileLaws.{count-known}
-use Rattle.table.proofs.RoundTrip.{HeadFacts, head-known, tableIn-count, read-test, read-table}
+use Rattle.table.proofs.RoundTrip.{head-known, tableIn-count, read-test, read-table}
 use Rattle.reading.proofs.ReadLaws.{refused-head, refused-windows}
 use Rattle.reading.proofs.read.Statement.{statement}
 use Rattle.reading.proofs.read.Tie as tie

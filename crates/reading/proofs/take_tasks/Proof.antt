@@ -1,5 +1,5 @@
 -- `reading::take_tasks` meets its contract. The loop's invariant: the places below `i` hold their tasks, and the cursor stands at task `i`.
-use Prim.Native.Nat.{ℕ, _+_, _-_, _≤_, _<_}
+use Prim.Native.Nat.{ℕ, _-_, _≤_}
 use mathlib.Core.Path.{_≡_, _∙_, ap}
 use native.Mathlib.Omega.{arith}
 use Rattle.table.specs.Tables.{noTask}

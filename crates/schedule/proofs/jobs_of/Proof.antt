@@ -1,10 +1,10 @@
 -- `schedule::jobs_of` meets its contract. The loop's invariant: the places below `i` hold their jobs.
-use Prim.Native.Nat.{ℕ, _-_, _≤_}
+use Prim.Native.Nat.{_-_, _≤_}
 use native.Mathlib.Omega.{arith}
 use Rattle.base.specs.Limits.{maxTasks}
 use Rattle.base.proofs.Filling.{Filled, filled-start, filled-set, filled-whole}
 use Rattle.table.specs.Tables.{taskAt}
-use Rattle.schedule.specs.Jobs.{noJob, jobOf, jobAt}
+use Rattle.schedule.specs.Jobs.{noJob, jobAt}
 use Rattle.schedule.proofs.jobs_of.Statement.{statement}
 use Rattle.schedule.proofs.jobs_of.Tie as tie
 

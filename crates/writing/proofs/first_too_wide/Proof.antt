@@ -1,6 +1,6 @@
 -- `writing::first_too_wide` meets its contract: a search from the first position upwards.
-use Prim.Native.Nat.{ℕ, _-_}
-use mathlib.Core.Path.{_≡_, _∙_, sym}
+use Prim.Native.Nat.{_-_}
+use mathlib.Core.Path.{_∙_, sym}
 use native.Mathlib.Omega.{arith}
 use borrow.Author.Needs.{needs}
 use Rattle.base.proofs.LowestLaws.{Searched, search-start, search-found, search-passed, search-end}

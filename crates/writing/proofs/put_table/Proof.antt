@@ -1,14 +1,13 @@
 -- `writing::put_table` meets its contract. The loop's invariant: the header's bits and those of the tasks below `i` are packed over the
 -- head of the list, and the cursor stands at task `i`.
-use Prim.Native.Nat.{ℕ, _+_, _*_, _-_, _≤_, _<_}
-use mathlib.Core.Path.{_≡_, refl, sym, ap, _∙_}
-use mathlib.Core.List.{_++_}
+use Prim.Native.Nat.{_-_, _≤_}
+use mathlib.Core.Path.{_≡_, refl, _∙_}
 use native.Mathlib.Omega.{arith}
-use lib.ListN.{length, drop}
+use lib.ListN.{length}
 use Rattle.bits.specs.Bits.{bytesFor, putBits}
 use Rattle.table.specs.Layout.{headerWidth, taskStart, fileLength}
 use Rattle.table.specs.Tables.{taskAt}
-use Rattle.table.specs.Writing.{fileOf, headerBits, tasksBits, tableBits}
+use Rattle.table.specs.Writing.{tasksBits}
 use Rattle.writing.proofs.PutLaws.{put-next, put-whole}
 use Rattle.writing.proofs.put_table.Statement.{statement}
 use Rattle.writing.proofs.put_table.Tie as tie

@@ -1,6 +1,4 @@
 -- `writing::put_task` meets its contract: each field starts at the bit where the last ended.
-use Prim.Native.Nat.{_+_}
-use mathlib.Core.Path.{_≡_}
 use native.Mathlib.Omega.{arith}
 use borrow.Author.Needs.{needs}
 use Rattle.bits.specs.Bits.{bitsOf}

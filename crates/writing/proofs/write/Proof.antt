@@ -1,19 +1,18 @@
 -- `writing::write` meets its contract: each return knows the tests that led there, in their order, and a refusal touches no byte.
-use Prim.Native.Nat.{ℕ, _≤_, _<_}
+use Prim.Native.Nat.{_≤_}
 use mathlib.Core.Path.{_≡_, refl, _∙_, sym, ap, ap₂}
-use mathlib.Core.Bool.{Bool, true, false}
+use mathlib.Core.Bool.{false}
 use native.Mathlib.Omega.{arith}
 use borrow.Author.Needs.{needs}
-use lib.ListN.{length, drop}
+use lib.ListN.{length}
 use Rattle.base.specs.Limits.{maxTasks}
 use Rattle.table.specs.declared.Table.{Table}
-use Rattle.table.specs.declared.Written.{Written}
 use Rattle.table.specs.declared.Answer.the-variants.{Accepted}
 use Rattle.table.specs.Tables.{tableOf}
 use Rattle.table.specs.Layout.{fileLength, badCount, badPeriod}
 use Rattle.table.specs.Answers.{numberOf, placeOf, isAccepted, declined, wrote}
 use Rattle.table.specs.Windows.{windowAnswer}
-use Rattle.table.specs.Writing.{firstTooWide, writeReply}
+use Rattle.table.specs.Writing.{firstTooWide}
 use Rattle.table.proofs.AnswerLaws.{told-refused, refused-number}
 use Rattle.table.proofs.FileLaws.{count-known}
 use Rattle.writing.proofs.WriteLaws.{refused-keeps, count-refused, period-refused, width-refused, windows-refused, room-refused, nothing-refused, constructed-file, accepted-leaves}

@@ -1,21 +1,16 @@
 -- `table::Table::new` meets its contract. The loop's invariant: the places below `i` hold what the definition says, and the others are 0.
-use Prim.Native.Nat.{ℕ, _+_, _-_, _≤_, _<_}
-use mathlib.Core.Path.{_≡_, refl, sym, ap}
+use Prim.Native.Nat.{_-_, _≤_}
+use mathlib.Core.Path.{refl, ap}
 use mathlib.Core.Logic.{⊎-elim}
 use mathlib.Core.List.{List}
 use native.Mathlib.Omega.{arith}
-use borrow.Author.Needs.{needs}
-use lib.Dec.{ltb}
-use lib.ListN.{length, getD, set, length-set}
+use lib.ListN.{getD}
 use Rattle.base.specs.Limits.{maxTasks}
-use Rattle.base.specs.Tests.{pick, and}
 use Rattle.table.specs.declared.Task.{Task}
 use Rattle.table.specs.Tables.{noTask, tableOf}
 use Rattle.base.proofs.Filling.{Filled, filled-start, filled-set, filled-skip, filled-whole}
 use Rattle.table.proofs.Table.new.Statement.{statement}
 use Rattle.table.proofs.Table.new.Tie as tie
-use Rattle.table.proofs.Table.new.Reads as reads
-use Rattle.table.proofs.Table.new.Lts as lts
 
 abbrev Inv-loop : tie.InvT-loop
 Inv-loop count p q tasks kept₀ places i₀ kept i = (i ≤ 64) × Filled noTask (λ k. getD tasks k noTask) maxTasks count i kept
