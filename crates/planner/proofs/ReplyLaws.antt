@@ -117,33 +117,34 @@ pub record Replied (file : List ℕ) (reply : Planned) (old new : Lists) : Type 
   pub tasks-are : new .tasks ≡ tasksAfter (tableIn file) (reply .number) (old .tasks)
 
 module _ (file : List ℕ) (reply : Planned) (old new : Lists) (r : Replied file reply old new) (zero-is : reply .number ≡ 0) where
-  made : Made file reply
+  -- what is known after a reply of 0: a plan was made, and the first places of the lists hold its marks and runs
+  pub made : Made file reply
   made = rw (r .reply-is) (plan-made file (length (old .marks)) (length (old .starts)) (length (old .ends)) (length (old .tasks)) (rw (r .reply-is) at zero-is))
 
-  runs-are : reply .runs ≡ length (planRuns (tableIn file))
+  pub runs-are : reply .runs ≡ length (planRuns (tableIn file))
   unfolding planOf
   runs-are = ap (λ (p : Planned). p .runs) (made .reply-is)
 
-  marks-taken : take (tableIn file .count) (new .marks) ≡ planMarks (tableIn file)
+  pub marks-taken : take (tableIn file .count) (new .marks) ≡ planMarks (tableIn file)
   unfolding marksAfter
   marks-taken =
       ap (take (tableIn file .count)) (r .marks-are)
       ∙ written-taken (reply .number) (tableIn file .count) (planMarks (tableIn file)) (old .marks) zero-is
       (marks-length (tableIn file) (made .made .legal) (made .made .none))
 
-  starts-taken : take (reply .runs) (new .starts) ≡ startsOf (planRuns (tableIn file))
+  pub starts-taken : take (reply .runs) (new .starts) ≡ startsOf (planRuns (tableIn file))
   unfolding startsAfter
   starts-taken =
       ap (take (reply .runs)) (r .starts-are)
       ∙ written-taken (reply .number) (reply .runs) (startsOf (planRuns (tableIn file))) (old .starts) zero-is (length-map (planRuns (tableIn file)) (λ run. run .start) ∙ sym runs-are)
 
-  ends-taken : take (reply .runs) (new .ends) ≡ endsOf (planRuns (tableIn file))
+  pub ends-taken : take (reply .runs) (new .ends) ≡ endsOf (planRuns (tableIn file))
   unfolding endsAfter
   ends-taken =
       ap (take (reply .runs)) (r .ends-are)
       ∙ written-taken (reply .number) (reply .runs) (endsOf (planRuns (tableIn file))) (old .ends) zero-is (length-map (planRuns (tableIn file)) (λ run. run .end) ∙ sym runs-are)
 
-  tasks-taken : take (reply .runs) (new .tasks) ≡ tasksOf (planRuns (tableIn file))
+  pub tasks-taken : take (reply .runs) (new .tasks) ≡ tasksOf (planRuns (tableIn file))
   unfolding tasksAfter
   tasks-taken =
       ap (take (reply .runs)) (r .tasks-are)

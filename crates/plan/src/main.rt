@@ -1,0 +1,16 @@
+// The program: plans the table file on standard input, and prints its plan or its refusal on standard output. It holds 501 bytes of its input:
+// what reading says of a longer file follows from them.
+use libc::STDIN_FILENO;
+use libc::STDOUT_FILENO;
+use report::MAX_TEXT;
+
+// One byte more than the longest table file.
+const MOST: usize = 501;
+
+fn main() {
+    let mut file = [0u8; MOST];
+    let length = io::read_full(STDIN_FILENO, &mut file);
+    let mut text = [0u8; MAX_TEXT];
+    let printed = report::print(&file[..length], &mut text);
+    io::write_all(STDOUT_FILENO, &text[..printed]);
+}

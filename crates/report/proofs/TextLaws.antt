@@ -1,0 +1,166 @@
+-- Laws of the printed text: its parts, its greatest length, and what the plan call leaves to print.
+use Prim.Native.Nat.{ℕ, suc, _+_, _-_, _*_, _≤_, _<_}
+use mathlib.Core.Path.{_≡_, refl, sym, ap, ap₂, _∙_}
+use mathlib.Core.Bool.{true, false}
+use mathlib.Core.List.{List, [], _∷_, _++_}
+use native.Mathlib.Decide.{decLt}
+use native.Mathlib.Omega.{arith}
+use lib.Dec.{ltb, eqb}
+use lib.ListN.{length, take, length-append}
+use lib.Seq.{take-all}
+use borrow.Author.Tests.{eqb-true, eqb-false, ne-eqb, le-ltb}
+use Rattle.base.specs.Tests.{pick}
+use Rattle.base.specs.Lent.{writtenFront}
+use Rattle.base.proofs.TestLaws.{cases}
+use Rattle.bits.specs.Bits.{field, bytesFor}
+use Rattle.table.specs.declared.Table.{Table}
+use Rattle.table.specs.Layout.{taskStart, fileLength}
+use Rattle.table.specs.Answers.{numberOf, placeOf, isAccepted}
+use Rattle.table.specs.Reading.{countIn, tableIn, readAnswer}
+use Rattle.table.proofs.AnswerLaws.{refused-number}
+use Rattle.table.proofs.FileLaws.{legal-count}
+use Rattle.table.proofs.RoundTrip.{tableIn-count, read-length}
+use Rattle.schedule.specs.declared.Run.{Run}
+use Rattle.schedule.specs.Runs.{runsOf}
+use Rattle.planner.specs.declared.Planned.{Planned}
+use Rattle.planner.specs.Planning.{planMarks, planRuns, planDeclined, planOf, planReply}
+use Rattle.planner.proofs.ColumnLaws.{columns-runs}
+use Rattle.planner.proofs.PlanLaws.{Plannable, marks-length, plan-few}
+use Rattle.planner.proofs.ReplyLaws.{Lists, Made, Replied, file-refused, plan-made, made, runs-are, marks-taken, starts-taken, ends-taken, tasks-taken}
+use Rattle.report.specs.Putting.{Put}
+use Rattle.report.specs.Printing.{space, newline, planWord, dropWord, runWord, refusedWord, decimal, fields, line, dropsFrom, dropLines, runLine, runLines, planLines, planText, refusalText, longReply, printed, maxText}
+use Rattle.report.proofs.PutLaws.{put-front}
+use Rattle.report.proofs.PrefixLaws.{long-refused, read-prefix}
+use Rattle.report.proofs.DecimalLaws.{decimal-length}
+use Rattle.report.proofs.LineLaws.{line-length, plan-length}
+
+-- a number takes at most 21 bytes with its space
+fields-length : (numbers : List ℕ) → length (fields numbers) ≤ 21 * length numbers
+unfolding fields
+fields-length [] = omega arith
+fields-length (n ∷ numbers) = omega (arith, length-append (decimal n) (fields numbers), decimal-length n, fields-length numbers)
+
+-- a line of a word and its numbers
+line-few : (word numbers : List ℕ) → length (line word numbers) ≤ length word + 21 * length numbers + 1
+line-few word numbers = omega (arith, line-length word numbers, fields-length numbers)
+
+drops-length : (k : ℕ) (marks : List ℕ) → length (dropsFrom k marks) ≤ 71 * length marks
+unfolding dropsFrom
+drops-length k [] = omega arith
+drops-length k (mark ∷ marks) =
+    cases (eqb mark 0)
+    (λ e. rw e (omega (arith, length-append (line dropWord (k ∷ [])) (dropsFrom (suc k) marks), line-few dropWord (k ∷ []), drops-length (suc k) marks)))
+    (λ e. rw e (omega (arith, drops-length (suc k) marks)))
+
+runs-length : (runs : List Run) → length (runLines runs) ≤ 71 * length runs
+unfolding runLines runLine
+runs-length [] = omega arith
+runs-length (run ∷ runs) =
+    omega (
+      arith,
+      length-append (runLine run) (runLines runs),
+      line-few runWord (run .start ∷ run .end ∷ run .task ∷ []),
+      runs-length runs,
+    )
+
+pub refusal-length : (number place : ℕ) → length (refusalText number place) ≤ maxText
+unfolding refusalText
+refusal-length number place = omega (arith, line-few refusedWord (number ∷ place ∷ []))
+
+-- the text of a plan that was made
+plan-text-length : (file : List ℕ) → Plannable file → length (planText (tableIn file)) ≤ maxText
+unfolding planText dropLines
+plan-text-length file p =
+    let t = tableIn file in
+    omega (
+      arith,
+      plan-length (t .count) (planOf t .kept) (planOf t .discarded) (planMarks t) (planRuns t),
+      line-few planWord (t .count ∷ planOf t .kept ∷ planOf t .discarded ∷ []),
+      drops-length 0 (planMarks t),
+      runs-length (planRuns t),
+      marks-length t (p .legal) (p .none),
+      plan-few t (p .legal) (p .none),
+      legal-count (p .legal),
+    )
+
+-- No text is longer than maxText.
+pub printed-length : (file : List ℕ) → length (printed file) ≤ maxText
+unfolding printed longReply
+printed-length file =
+    let reply = planReply file 64 127 127 127 in
+    cases (eqb (reply .number) 0)
+    (λ e. rw e (plan-text-length file (plan-made file 64 127 127 127 (eqb-true (reply .number) 0 e) .made)))
+    (λ e. rw e (refusal-length (reply .number) (reply .place)))
+
+-- What is printed of a refusal.
+pub printed-refused : (file : List ℕ) (reply : Planned) → reply ≡ longReply file → (reply .number ≡ 0 → ⊥) → refusalText (reply .number) (reply .place) ≡ printed file
+unfolding printed
+printed-refused file reply e z = rw (← e, ne-eqb (reply .number) 0 z)
+
+-- What is printed of a plan, from the lists that the plan call wrote.
+module _ (file : List ℕ) (reply : Planned) (old new : Lists) (r : Replied file reply old new) (zero-is : reply .number ≡ 0) where
+  -- the file has bytes to read the count from
+  pub file-bits : 4 ≤ length file
+  unfolding fileLength bytesFor taskStart
+  file-bits =
+      let p = made file reply old new r zero-is .made in
+      let some : 0 < countIn file = rw (← tableIn-count file) (legal-count (p .legal) .0) in
+      rw (read-length file (p .accepted)) (omega arith)
+
+  -- the plan fits into the lists
+  pub count-fits : tableIn file .count ≤ 64
+  count-fits = legal-count (made file reply old new r zero-is .made .legal) .1
+
+  pub runs-fit : reply .runs ≤ 127
+  runs-fit =
+      let m = made file reply old new r zero-is .made in
+      omega (arith, runs-are file reply old new r zero-is, plan-few (tableIn file) (m .legal) (m .none), count-fits)
+
+  pub text-is : (count : ℕ) → count ≡ tableIn file .count → reply ≡ longReply file
+      → planLines count (reply .kept) (reply .discarded) (take count (new .marks))
+      (runsOf (take (reply .runs) (new .starts)) (take (reply .runs) (new .ends)) (take (reply .runs) (new .tasks)))
+      ≡ printed file
+  unfolding printed planText
+  text-is count e long =
+      let t = tableIn file in
+      let reply-is = made file reply old new r zero-is .reply-is in
+      rw (
+        e,
+        marks-taken file reply old new r zero-is,
+        starts-taken file reply old new r zero-is,
+        ends-taken file reply old new r zero-is,
+        tasks-taken file reply old new r zero-is,
+        columns-runs (planRuns t),
+        ← long,
+        zero-is,
+        reply-is,
+      )
+
+-- the count that is read from the file is that of its table
+pub count-is : (file : List ℕ) (at count : ℕ) → at ≡ 0 → count ≡ field file at 7 → count ≡ tableIn file .count
+unfolding countIn
+count-is file at count z e = e ∙ (rw z (sym (tableIn-count file)))
+
+-- The clauses of print where the list is long enough, from the text that was put.
+pub print-clauses : (file out : List ℕ) (text : List ℕ) (next : ℕ) (new : List ℕ) → maxText ≤ length out → text ≡ printed file → Put text 0 out next new
+    → (next ≡ pick (ltb (length out) maxText) 0 (length (printed file))) × (new ≡ pick (ltb (length out) maxText) out (writtenFront (printed file) out))
+print-clauses file out text next new h e p = rw (le-ltb (length out) maxText h, ← e) (put-front text out next new p)
+
+-- what is printed of a file that reading refuses
+printed-unread : (file : List ℕ) → isAccepted (readAnswer file) ≡ false → refusalText (numberOf (readAnswer file)) (placeOf (readAnswer file)) ≡ printed file
+unfolding longReply
+printed-unread file e =
+    printed-refused file (planDeclined (numberOf (readAnswer file)) (placeOf (readAnswer file))) (sym (file-refused file 64 127 127 127 e))
+    (eqb-false (numberOf (readAnswer file)) 0 (refused-number (readAnswer file) e))
+
+-- What is printed of a file follows from its first 501 bytes.
+pub printed-prefix : (file : List ℕ) → printed (take 501 file) ≡ printed file
+printed-prefix file =
+    elim (decLt 500 (length file)) [
+      | yes h ↦
+          let same = read-prefix file in
+          let bad = long-refused file h in
+          sym (printed-unread (take 501 file) (ap isAccepted same ∙ bad))
+          ∙ (ap₂ refusalText (ap numberOf same) (ap placeOf same) ∙ printed-unread file bad)
+      | no h ↦ ap printed (take-all 501 file (omega arith))
+    ]

@@ -1,0 +1,149 @@
+-- `report::print` meets its contract: the lists lent for planning are long enough for every table, and what they hold after a reply of 0 is printed.
+use Prim.Native.Nat.{ℕ, _≤_, _<_}
+use mathlib.Core.Path.{_≡_, refl, sym, _∙_}
+use native.Mathlib.Omega.{arith}
+use lib.ListN.{length, replicate}
+use lib.Seq.{length-take-le}
+use borrow.Author.Tests.{lt-ltb}
+use Rattle.table.specs.Reading.{tableIn}
+use Rattle.planner.proofs.ReplyLaws.{Lists, Replied}
+use Rattle.report.specs.Printing.{longReply, printed, maxText}
+use Rattle.report.proofs.TextLaws.{refusal-length, printed-length, printed-refused, file-bits, count-fits, runs-fit, text-is, count-is, print-clauses}
+use borrow.Author.Needs.{needs}
+use Rattle.report.proofs.print.Statement.{statement}
+use Rattle.report.proofs.print.Tie as tie
+
+-- the lists that are lent, before and after planning
+abbrev old : Lists
+old = record { marks = replicate 64 0; starts = replicate 127 0; ends = replicate 127 0; tasks = replicate 127 0 }
+
+abbrev new : tie.After-plan → Lists
+new c = record { marks = c .plan .last .1 .0; starts = c .plan .last .1 .1 .0; ends = c .plan .last .1 .1 .1 .0; tasks = c .plan .last .1 .1 .1 .1 .0 }
+
+replied : (c : tie.After-plan) → Replied (c .before .before .before .before .before .before .before .before .args .file .now) (c .plan .result) old (new c)
+replied c =
+    let e = c .plan .ensures in
+    record { reply-is = e .0; marks-are = e .1 .0; starts-are = e .1 .1 .0; ends-are = e .1 .1 .1 .0; tasks-are = e .1 .1 .1 .1 .0 }
+
+long : (c : tie.After-plan) → c .plan .result ≡ longReply (c .before .before .before .before .before .before .before .before .args .file .now)
+unfolding longReply
+long c = c .plan .ensures .0
+
+lengths : (c : tie.After-plan) → (length (new c .marks) ≡ 64) × (length (new c .starts) ≡ 127) × (length (new c .ends) ≡ 127) × (length (new c .tasks) ≡ 127)
+lengths c = omega (arith, c .plan .kept)
+
+-- after a reply of 0
+counted : (c : tie.After-take) → c .take .result .value ≡ tableIn (c .before .before .before .before .before .before .before .before .before .before .before .before .before .before .before .before .args .file .now) .count
+counted c = count-is _ _ _ (c .before .new .ensures) (c .take .ensures .0)
+
+few : (c : tie.After-take) → c .before .before .before .before .before .before .before .before .plan .result .runs ≤ 127
+few c = runs-fit _ _ _ _ (replied (c .before .before .before .before .before .before .before .before)) (c .before .before .if2 .left)
+
+returns : tie.Need-returns
+returns c = rw (lt-ltb (length (c .before .before .before .args .out .now)) maxText (c .if1 .taken)) (refl, refl)
+
+slice-aggregate-plan : tie.Need-slice-aggregate-plan
+slice-aggregate-plan c = search needs
+
+slice-aggregate-plan-2 : tie.Need-slice-aggregate-plan-2
+slice-aggregate-plan-2 c = search needs
+
+slice-aggregate-plan-3 : tie.Need-slice-aggregate-plan-3
+slice-aggregate-plan-3 c = search needs
+
+slice-aggregate-plan-4 : tie.Need-slice-aggregate-plan-4
+slice-aggregate-plan-4 c = search needs
+
+plan-requires : tie.Need-plan-requires
+plan-requires c κs = search needs
+
+put-refusal-requires : tie.Need-put-refusal-requires
+put-refusal-requires c κs = omega (arith, refusal-length (c .before .before .before .before .before .before .before .plan .result .number) (c .before .before .before .before .before .before .before .plan .result .place))
+
+same-length : tie.Need-same-length
+same-length c = search needs
+
+returns-2 : tie.Need-returns-2
+returns-2 c =
+    let refused = c .before .before .before .before in
+    let plan = refused .before .before .before .before .before .before in
+    print-clauses _ _ _ _ _ (plan .before .before .before .before .before .if1 .left) (printed-refused _ (plan .plan .result) (long plan) (refused .if2 .taken)) (c .before .before .put-refusal .ensures)
+
+new-requires : tie.Need-new-requires
+new-requires c κs = search needs
+
+take-requires : tie.Need-take-requires
+take-requires c κs =
+    let some = file-bits _ _ _ _ (replied (c .before .before .before .before .before .before .before)) (c .before .if2 .left) in
+    omega (arith, c .new .ensures, some)
+
+cast-places : tie.Need-cast-places
+cast-places c = search needs
+
+array-share-prefix-marks : tie.Need-array-share-prefix-marks
+array-share-prefix-marks c = omega (arith, counted (c .before), lengths (c .before .before .before .before .before .before .before .before .before), count-fits _ _ _ _ (replied (c .before .before .before .before .before .before .before .before .before)) (c .before .before .before .if2 .left))
+
+slice-aggregate-put-plan : tie.Need-slice-aggregate-put-plan
+slice-aggregate-put-plan c = sym (length-take-le _ _ (array-share-prefix-marks (c .before)))
+
+array-share-prefix-starts : tie.Need-array-share-prefix-starts
+array-share-prefix-starts c = omega (arith, lengths (c .before .before .before .before .before .before .before .before .before .before), few (c .before .before))
+
+slice-aggregate-put-plan-2 : tie.Need-slice-aggregate-put-plan-2
+slice-aggregate-put-plan-2 c = sym (length-take-le _ _ (array-share-prefix-starts (c .before)))
+
+array-share-prefix-ends : tie.Need-array-share-prefix-ends
+array-share-prefix-ends c = omega (arith, lengths (c .before .before .before .before .before .before .before .before .before .before .before), few (c .before .before .before))
+
+slice-aggregate-put-plan-3 : tie.Need-slice-aggregate-put-plan-3
+slice-aggregate-put-plan-3 c = sym (length-take-le _ _ (array-share-prefix-ends (c .before)))
+
+array-share-prefix-tasks : tie.Need-array-share-prefix-tasks
+array-share-prefix-tasks c = omega (arith, lengths (c .before .before .before .before .before .before .before .before .before .before .before .before), few (c .before .before .before .before))
+
+slice-aggregate-put-plan-4 : tie.Need-slice-aggregate-put-plan-4
+slice-aggregate-put-plan-4 c = sym (length-take-le _ _ (array-share-prefix-tasks (c .before)))
+
+put-plan-requires : tie.Need-put-plan-requires
+put-plan-requires c κs =
+    let taken = c .before .before .before .before .before in
+    let plan = c .before .before .before .before .before .before .before .before .before .before .before .before .before in
+    let text = text-is _ _ _ _ (replied plan) (taken .before .before .if2 .left) _ (counted taken) (long plan) in
+    ((sym (slice-aggregate-put-plan-3 (c .before)) ∙ slice-aggregate-put-plan-2 (c .before .before), sym (slice-aggregate-put-plan-4 c) ∙ slice-aggregate-put-plan-2 (c .before .before)), rw text (omega (arith, printed-length (plan .before .before .before .before .before .before .before .before .args .file .now), plan .before .before .before .before .before .if1 .left)))
+
+same-length-2 : tie.Need-same-length-2
+same-length-2 c = search needs
+
+returns-3 : tie.Need-returns-3
+returns-3 c =
+    let taken = c .before .before .before .before .before .before .before .before in
+    let plan = c .before .before .before .before .before .before .before .before .before .before .before .before .before .before .before .before in
+    print-clauses _ _ _ _ _ (plan .before .before .before .before .before .if1 .left) (text-is _ _ _ _ (replied plan) (taken .before .before .if2 .left) _ (counted taken) (long plan)) (c .before .before .put-plan .ensures)
+
+pub print-spec : {M : Type 1} → statement M
+print-spec =
+    tie.close
+    (tie.spec
+    returns
+    slice-aggregate-plan
+    slice-aggregate-plan-2
+    slice-aggregate-plan-3
+    slice-aggregate-plan-4
+    plan-requires
+    put-refusal-requires
+    same-length
+    returns-2
+    new-requires
+    take-requires
+    cast-places
+    array-share-prefix-marks
+    slice-aggregate-put-plan
+    array-share-prefix-starts
+    slice-aggregate-put-plan-2
+    array-share-prefix-ends
+    slice-aggregate-put-plan-3
+    array-share-prefix-tasks
+    slice-aggregate-put-plan-4
+    put-plan-requires
+    same-length-2
+    returns-3)

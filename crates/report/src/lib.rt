@@ -1,0 +1,198 @@
+// The printed plan: the text of a file's plan or refusal, as bytes in a lent list.
+ghost use mathlib.Core.Path.{_≡_};
+ghost use mathlib.Core.List.{[], _∷_};
+ghost use Prim.Native.Nat.{_+_, _≤_, _<_};
+ghost use lib.Dec.{ltb};
+ghost use lib.ListN.{length};
+ghost use Rattle.base.specs.Tests.{pick};
+ghost use Rattle.base.specs.Lent.{writtenFront};
+ghost use Rattle.schedule.specs.Runs.{runsOf};
+ghost use Rattle.report.specs.Putting.{Put};
+ghost use Rattle.report.specs.Printing.{decimal, fields, line, dropWord, dropLines, runWord, runLines, planLines, refusalText, printed, maxText};
+use base::MAX_TASKS;
+use bits::Cursor;
+use table::COUNT_WIDTH;
+
+// No text is longer; definitions say maxText.
+pub const MAX_TEXT: usize = 13_632;
+
+// The most runs of a plan.
+const PLAN_RUNS: usize = 2 * MAX_TASKS - 1;
+
+// The bytes between two fields and at the end of a line, and that of the digit 0.
+const SPACE: u8 = 32;
+
+const NEWLINE: u8 = 10;
+
+const ZERO: u8 = 48;
+
+// One byte put at a place.
+fn put_byte(out: &mut [u8], at: usize, byte: u8) -> usize
+    requires { ⌜ at < length (now out) ⌝ }
+    ensures { λ r. ⌜ Put (byte ∷ []) at (now (out .entry)) r (now (out .exit)) ⌝ }
+{
+    out[at] = byte;
+    at + 1
+}
+
+// A word put at a place.
+fn put_word(out: &mut [u8], at: usize, word: &[u8]) -> usize
+    requires { ⌜ at + length (now word) ≤ length (now out) ⌝ }
+    ensures { λ r. ⌜ Put (now (word .entry)) at (now (out .entry)) r (now (out .exit)) ⌝ }
+{
+    let mut i: usize = 0;
+    while i < word.len() {
+        out[at + i] = word[i];
+        i += 1;
+    }
+    at + word.len()
+}
+
+// A number's decimal digits put at a place: those of its tenth, and then the last one.
+fn put_decimal(out: &mut [u8], at: usize, n: u64) -> usize
+    requires { ⌜ at + length (decimal n) ≤ length (now out) ⌝ }
+    ensures { λ r. ⌜ Put (decimal n) at (now (out .entry)) r (now (out .exit)) ⌝ }
+{
+    let last = ZERO + (n % 10) as u8;
+    if n < 10 {
+        return put_byte(out, at, last);
+    }
+    let next = put_decimal(out, at, n / 10);
+    put_byte(out, next, last)
+}
+
+// Numbers put at a place, each with a space before it.
+fn put_fields(out: &mut [u8], at: usize, numbers: &[u64]) -> usize
+    requires { ⌜ at + length (fields (now numbers)) ≤ length (now out) ⌝ }
+    ensures { λ r. ⌜ Put (fields (now (numbers .entry))) at (now (out .entry)) r (now (out .exit)) ⌝ }
+{
+    let mut next = at;
+    let mut i: usize = 0;
+    while i < numbers.len() {
+        let digits = put_byte(out, next, SPACE);
+        next = put_decimal(out, digits, numbers[i]);
+        i += 1;
+    }
+    next
+}
+
+// A line put at a place: a word, its numbers, a newline.
+fn put_line(out: &mut [u8], at: usize, word: &[u8], numbers: &[u64]) -> usize
+    requires { ⌜ at + length (line (now word) (now numbers)) ≤ length (now out) ⌝ }
+    ensures { λ r. ⌜ Put (line (now (word .entry)) (now (numbers .entry))) at (now (out .entry)) r (now (out .exit)) ⌝ }
+{
+    let first = put_word(out, at, word);
+    let end = put_fields(out, first, numbers);
+    put_byte(out, end, NEWLINE)
+}
+
+// The DROP line of a position.
+fn put_drop(out: &mut [u8], at: usize, position: usize) -> usize
+    requires { ⌜ at + length (line dropWord (position ∷ [])) ≤ length (now out) ⌝ }
+    ensures { λ r. ⌜ Put (line dropWord (position ∷ [])) at (now (out .entry)) r (now (out .exit)) ⌝ }
+{
+    let numbers = [position as u64];
+    put_line(out, at, b"DROP", &numbers)
+}
+
+// The DROP lines of a keep list: one for each mark 0, rising.
+fn put_drops(out: &mut [u8], at: usize, marks: &[u8]) -> usize
+    requires { ⌜ at + length (dropLines (now marks)) ≤ length (now out) ⌝ }
+    ensures { λ r. ⌜ Put (dropLines (now (marks .entry))) at (now (out .entry)) r (now (out .exit)) ⌝ }
+{
+    let mut next = at;
+    let mut i: usize = 0;
+    while i < marks.len() {
+        if marks[i] == 0 {
+            next = put_drop(out, next, i);
+        }
+        i += 1;
+    }
+    next
+}
+
+// The RUN line of a run: start, end, task.
+fn put_run(out: &mut [u8], at: usize, start: u32, end: u32, task: u32) -> usize
+    requires { ⌜ at + length (line runWord (start ∷ end ∷ task ∷ [])) ≤ length (now out) ⌝ }
+    ensures { λ r. ⌜ Put (line runWord (start ∷ end ∷ task ∷ [])) at (now (out .entry)) r (now (out .exit)) ⌝ }
+{
+    let numbers = [start as u64, end as u64, task as u64];
+    put_line(out, at, b"RUN", &numbers)
+}
+
+// The RUN lines of runs in three columns.
+fn put_runs(out: &mut [u8], at: usize, starts: &[u32], ends: &[u32], tasks: &[u32]) -> usize
+    requires { ⌜ (length (now ends) ≡ length (now starts)) × (length (now tasks) ≡ length (now starts)) ⌝ }
+    requires { ⌜ at + length (runLines (runsOf (now starts) (now ends) (now tasks))) ≤ length (now out) ⌝ }
+    ensures { λ r. ⌜ Put (runLines (runsOf (now (starts .entry)) (now (ends .entry)) (now (tasks .entry)))) at (now (out .entry)) r (now (out .exit)) ⌝ }
+{
+    let mut next = at;
+    let mut i: usize = 0;
+    while i < starts.len() {
+        next = put_run(out, next, starts[i], ends[i], tasks[i]);
+        i += 1;
+    }
+    next
+}
+
+// The text of a plan put at the front of a list: the PLAN line with tasks, kept, discarded; the DROP lines; the RUN lines.
+fn put_plan(
+    out: &mut [u8],
+    count: u32,
+    kept: u32,
+    discarded: u32,
+    marks: &[u8],
+    starts: &[u32],
+    ends: &[u32],
+    tasks: &[u32],
+) -> usize
+    requires { ⌜ (length (now ends) ≡ length (now starts)) × (length (now tasks) ≡ length (now starts)) ⌝ }
+    requires { ⌜ length (planLines count kept discarded (now marks) (runsOf (now starts) (now ends) (now tasks))) ≤ length (now out) ⌝ }
+    ensures { λ r. ⌜ Put (planLines count kept discarded (now (marks .entry)) (runsOf (now (starts .entry)) (now (ends .entry)) (now (tasks .entry)))) 0 (now (out .entry)) r (now (out .exit)) ⌝ }
+{
+    let numbers = [count as u64, kept as u64, discarded as u64];
+    let drops = put_line(out, 0, b"PLAN", &numbers);
+    let runs = put_drops(out, drops, marks);
+    put_runs(out, runs, starts, ends, tasks)
+}
+
+// The text of a refusal put at the front of a list: its number and place.
+fn put_refusal(out: &mut [u8], number: u32, place: usize) -> usize
+    requires { ⌜ length (refusalText number place) ≤ length (now out) ⌝ }
+    ensures { λ r. ⌜ Put (refusalText number place) 0 (now (out .entry)) r (now (out .exit)) ⌝ }
+{
+    let numbers = [number as u64, place as u64];
+    put_line(out, 0, b"REFUSED", &numbers)
+}
+
+// Plans a file and prints its plan or its refusal at the front of a lent list; the number of bytes printed. A list shorter than MAX_TEXT is left
+// as it is, and the reply is 0.
+pub fn print(file: &[u8], out: &mut [u8]) -> usize
+    ensures length_is { λ r. ⌜ r ≡ pick (ltb (length (now (out .entry))) maxText) 0 (length (printed (now (file .entry)))) ⌝ }
+    ensures content { λ r. ⌜ now (out .exit) ≡ pick (ltb (length (now (out .entry))) maxText) (now (out .entry)) (writtenFront (printed (now (file .entry))) (now (out .entry))) ⌝ }
+{
+    if out.len() < MAX_TEXT {
+        return 0;
+    }
+    let mut marks = [0u8; MAX_TASKS];
+    let mut starts = [0u32; PLAN_RUNS];
+    let mut ends = [0u32; PLAN_RUNS];
+    let mut tasks = [0u32; PLAN_RUNS];
+    let reply = planner::plan(file, &mut marks, &mut starts, &mut ends, &mut tasks);
+    if reply.number != 0 {
+        return put_refusal(out, reply.number, reply.place);
+    }
+    let count = Cursor::new().take(file, COUNT_WIDTH).value;
+    let places = count as usize;
+    let runs = reply.runs;
+    put_plan(
+        out,
+        count,
+        reply.kept,
+        reply.discarded,
+        &marks[..places],
+        &starts[..runs],
+        &ends[..runs],
+        &tasks[..runs],
+    )
+}
