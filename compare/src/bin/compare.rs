@@ -1,0 +1,384 @@
+//! Compares the proved library with the independent implementation on many inputs, valid and damaged, long and short: whole replies, and the whole
+//! content of every lent list with what stands on both sides of it. On a difference it prints the call, the seed and the input, and ends with
+//! status 1. `compare CALL SEED` does one case again.
+
+use planner_compare::brute;
+use planner_compare::ffi::{self, BusyCount, Judged, Planned, TableRead, Written};
+use planner_compare::inputs::{self, lent_length, Load};
+use planner_compare::random::Random;
+use planner_compare::reference::{self, deadline_tick, release_tick, Table, LAST_FRAME};
+use std::fmt::Debug;
+use std::process::ExitCode;
+use std::time::Instant;
+
+/// A list to lend, with a margin on both sides that no call may touch.
+#[derive(Clone, PartialEq, Eq)]
+struct Lent<T> {
+    all: Vec<T>,
+    length: usize,
+}
+
+const MARGIN: usize = 8;
+
+impl<T: Copy> Lent<T> {
+    /// A list of this length, filled beforehand.
+    fn filled(length: usize, mut fill: impl FnMut() -> T) -> Lent<T> {
+        Lent { all: (0..length + 2 * MARGIN).map(|_| fill()).collect(), length }
+    }
+
+    fn list(&self) -> &[T] {
+        &self.all[MARGIN..MARGIN + self.length]
+    }
+
+    fn list_mut(&mut self) -> &mut [T] {
+        &mut self.all[MARGIN..MARGIN + self.length]
+    }
+}
+
+fn bytes(random: &mut Random, length: usize) -> Lent<u8> {
+    Lent::filled(length, || random.word() as u8)
+}
+
+fn words(random: &mut Random, length: usize) -> Lent<u32> {
+    Lent::filled(length, || random.word() as u32)
+}
+
+/// What a case came to: the number replied, or what differs.
+type Outcome = Result<u32, String>;
+
+fn same<T: PartialEq + Debug>(what: &str, proved: &T, expected: &T, input: impl FnOnce() -> String) -> Result<(), String> {
+    if proved == expected {
+        return Ok(());
+    }
+    Err(format!("{what}\n  proved library: {proved:?}\n  reference:      {expected:?}\n  {}", input()))
+}
+
+fn same_list<T: PartialEq + Debug + Copy>(what: &str, proved: &Lent<T>, expected: &Lent<T>, input: impl FnOnce() -> String) -> Result<(), String> {
+    if proved == expected {
+        return Ok(());
+    }
+    let (a, b) = (proved.list(), expected.list());
+    Err(format!("{what} of length {} (or its margin)\n  proved library: {a:?}\n  reference:      {b:?}\n  {}", proved.length, input()))
+}
+
+fn hex(file: &[u8]) -> String {
+    let digits: String = file.iter().map(|byte| format!("{byte:02x}")).collect();
+    format!("file of {} bytes: {digits}", file.len())
+}
+
+fn compare_read(random: &mut Random) -> Outcome {
+    let file = inputs::file(random);
+    let proved = ffi::read(&file);
+    let expected = TableRead::from(reference::read(&file));
+    same("reply", &proved, &expected, || hex(&file))?;
+    Ok(proved.number)
+}
+
+fn compare_write(random: &mut Random) -> Outcome {
+    let table = if random.once_in(2) { inputs::table(random) } else { inputs::faulty_table(random) };
+    let needed = reference::file_length((table.count as usize).min(64));
+    let length = lent_length(random, needed);
+    let mut out = bytes(random, length);
+    let mut expected_out = out.clone();
+    let proved = ffi::write(&table, out.list_mut());
+    let expected = Written::from(reference::write(&table, expected_out.list_mut()));
+    let input = || format!("{table:?}");
+    same("reply", &proved, &expected, input)?;
+    same_list("bytes", &out, &expected_out, input)?;
+    if proved.number == 0 {
+        // Written and read again, the table is the same; read and written again, the file.
+        let mut same_table = Table { count: table.count, p: table.p, q: table.q, ..Table::ZERO };
+        same_table.tasks[..table.count as usize].copy_from_slice(table.tasks());
+        same("table read again", &ffi::read(&out.list()[..proved.bytes]), &TableRead::from(Ok(same_table)), input)?;
+    }
+    Ok(proved.number)
+}
+
+fn compare_shift(random: &mut Random) -> Outcome {
+    let file = inputs::file(random);
+    // Near the ends of the range that this table can move in, and far beyond them.
+    let (lowest, highest) = reference::read(&file).map_or((0, 0), |table| {
+        let lowest = table.tasks().iter().map(|task| task.release).min().unwrap_or(0);
+        let highest = table.tasks().iter().map(|task| task.deadline).max().unwrap_or(0);
+        (-(lowest as i32), (LAST_FRAME - highest) as i32)
+    });
+    let frames = match random.up_to(9) {
+        0 => random.pick(&[0, 1, -1, i32::MIN, i32::MIN + 1, i32::MAX, i32::MAX - 1, 131_071, -131_071, 131_072, -131_072]),
+        1 => random.word() as i32,
+        2 => (random.word() as i32) >> random.up_to(31),
+        3 => lowest + random.up_to(4) as i32 - 2,
+        4 => highest + random.up_to(4) as i32 - 2,
+        _ => lowest + random.up_to((highest - lowest) as u32) as i32,
+    };
+    let length = lent_length(random, file.len());
+    let mut out = bytes(random, length);
+    let mut expected_out = out.clone();
+    let proved = ffi::shift(&file, frames, out.list_mut());
+    let expected = Written::from(reference::shift(&file, frames, expected_out.list_mut()));
+    let input = || format!("by {frames}, {}", hex(&file));
+    same("reply", &proved, &expected, input)?;
+    same_list("bytes", &out, &expected_out, input)?;
+    Ok(proved.number)
+}
+
+fn compare_plan(random: &mut Random) -> Outcome {
+    let file = if random.up_to(3) > 0 { inputs::pack(&inputs::table(random)) } else { inputs::file(random) };
+    let n = (file.first().map_or(1, |byte| byte >> 1) as usize).clamp(1, 64);
+    let exact = random.up_to(3) > 0;
+    let mut length = |needed: usize| if exact { needed } else { lent_length(random, needed) };
+    let lengths = [length(n), length(2 * n - 1), length(2 * n - 1), length(2 * n - 1)];
+    let mut marks = bytes(random, lengths[0]);
+    let mut starts = words(random, lengths[1]);
+    let mut ends = words(random, lengths[2]);
+    let mut tasks = words(random, lengths[3]);
+    let (mut expected_marks, mut expected_starts, mut expected_ends, mut expected_tasks) =
+        (marks.clone(), starts.clone(), ends.clone(), tasks.clone());
+    let proved = ffi::plan(&file, marks.list_mut(), starts.list_mut(), ends.list_mut(), tasks.list_mut());
+    let expected = Planned::from(reference::plan(
+        &file,
+        expected_marks.list_mut(),
+        expected_starts.list_mut(),
+        expected_ends.list_mut(),
+        expected_tasks.list_mut(),
+    ));
+    let input = || hex(&file);
+    same("reply", &proved, &expected, input)?;
+    same_list("marks", &marks, &expected_marks, input)?;
+    same_list("starts", &starts, &expected_starts, input)?;
+    same_list("ends", &ends, &expected_ends, input)?;
+    same_list("tasks", &tasks, &expected_tasks, input)?;
+    if proved.number == 0 {
+        let said = ffi::judge(&file, &marks.list()[..n], &starts.list()[..proved.runs], &ends.list()[..proved.runs], &tasks.list()[..proved.runs]);
+        let owed = Judged { number: 0, place: 0, yes: true, kept: proved.kept, discarded: proved.discarded };
+        same("judge of the plan", &said, &owed, input)?;
+    }
+    Ok(if proved.discarded > 0 { DROPPED } else { proved.number })
+}
+
+fn compare_judge(random: &mut Random) -> Outcome {
+    let (file, marks, columns) = inputs::judgement(random);
+    let proved = ffi::judge(&file, &marks, &columns.starts, &columns.ends, &columns.tasks);
+    let expected = Judged::from(reference::judge(&file, &marks, &columns.starts, &columns.ends, &columns.tasks));
+    same("reply", &proved, &expected, || format!("marks {marks:?}, {columns:?}, {}", hex(&file)))?;
+    Ok(if proved.yes { YES } else { proved.number })
+}
+
+/// One task whose ticks are all runs of their own: the most runs, and one more.
+fn compare_judge_long(random: &mut Random) -> Outcome {
+    let length = random.between(4090, 4100);
+    let task = reference::Task { release: 0, deadline: 2 * length, mandatory: length, optional: 0 };
+    let mut table = Table { count: 1, p: 1, q: 1, ..Table::ZERO };
+    table.tasks[0] = task;
+    let file = inputs::pack(&table);
+    let mut columns = inputs::Columns::default();
+    for i in 0..length {
+        let start = 2 * i + random.up_to(1);
+        columns.push((start, start + 1, 0));
+    }
+    if random.once_in(3) {
+        let at = random.index(length as usize);
+        columns.ends[at] += random.up_to(2);
+    }
+    let proved = ffi::judge(&file, &[1], &columns.starts, &columns.ends, &columns.tasks);
+    let expected = Judged::from(reference::judge(&file, &[1], &columns.starts, &columns.ends, &columns.tasks));
+    same("reply", &proved, &expected, || format!("{length} runs"))?;
+    Ok(if proved.yes { YES } else { proved.number })
+}
+
+fn compare_busy(random: &mut Random) -> Outcome {
+    let columns = inputs::busy_columns(random);
+    let end = columns.ends.last().copied().unwrap_or(0);
+    let bound = |random: &mut Random| match random.up_to(3) {
+        0 => random.pick(&[0, 1, end, end.wrapping_add(1), u32::MAX]),
+        1 => random.up_to(end),
+        _ => random.any(),
+    };
+    let (a, b) = (bound(random), bound(random));
+    let proved = ffi::busy(&columns.starts, &columns.ends, &columns.tasks, a, b);
+    let expected = BusyCount::from(reference::busy(&columns.starts, &columns.ends, &columns.tasks, a, b));
+    same("reply", &proved, &expected, || format!("from {a} to {b}, {columns:?}"))?;
+    Ok(proved.number)
+}
+
+/// A small table with few ticks.
+fn small_table(random: &mut Random) -> Table {
+    loop {
+        let n = random.between(1, 8) as usize;
+        let q = random.between(1, 4);
+        let p = random.between(q, 3 * q);
+        let load = random.pick(&[Load::Tight, Load::Few, Load::Few, Load::Any]);
+        let mut table = inputs::nested_table(random, n, (p, q), load);
+        let lowest = table.tasks().iter().map(|task| task.release).min().unwrap_or(0);
+        let to = random.up_to(4);
+        for task in &mut table.tasks[..n] {
+            task.release -= lowest - to.min(lowest);
+            task.deadline -= lowest - to.min(lowest);
+            if load == Load::Any {
+                task.mandatory %= 6;
+                task.optional %= 6;
+            }
+        }
+        let ticks = |task: &reference::Task| deadline_tick(task.deadline, p, q) - release_tick(task.release, p, q);
+        if table.tasks().iter().all(|task| ticks(task) <= 60) {
+            return table;
+        }
+    }
+}
+
+/// The planner, the reference and brute force over all keep lists.
+fn compare_brute(random: &mut Random) -> Outcome {
+    let table = small_table(random);
+    let file = inputs::pack(&table);
+    let n = table.count as usize;
+    let input = || hex(&file);
+    let best = brute::best(&table).map_err(|what| format!("brute force: the rules differ about {what}\n  {}", input()))?;
+    let (marks, runs, expected) = match best {
+        Ok(best) => {
+            let said = Planned { number: 0, place: 0, kept: best.kept, discarded: best.discarded, runs: best.runs.len() };
+            (best.marks, best.runs, said)
+        }
+        Err(place) => (vec![9; n], vec![], Planned { number: 8, place, kept: 0, discarded: 0, runs: 0 }),
+    };
+    for (name, plan) in PLANNERS {
+        let (said, got_marks, got_runs) = plan_with(plan, &file, n);
+        if (said, &got_marks, &got_runs) != (expected, &marks, &runs) {
+            return Err(format!(
+                "{name} and brute force\n  {name}: {said:?} {got_marks:?} {got_runs:?}\n  brute force: {expected:?} {marks:?} {runs:?}\n  {}",
+                input()
+            ));
+        }
+    }
+    Ok(if expected.number == 0 && expected.discarded > 0 { DROPPED } else { expected.number })
+}
+
+/// A planner that replies as the C interface does.
+type Plan<'a> = &'a dyn Fn(&[u8], &mut [u8], &mut [u32], &mut [u32], &mut [u32]) -> Planned;
+
+const PLANNERS: [(&str, Plan); 2] = [("proved library", &ffi::plan), ("reference", &|f, m, s, e, t| Planned::from(reference::plan(f, m, s, e, t)))];
+
+/// The reply, the marks and the runs of a planner whose lists are just long enough; on a refusal the marks stay 9.
+fn plan_with(plan: Plan, file: &[u8], n: usize) -> (Planned, Vec<u8>, Vec<(u32, u32, u32)>) {
+    let mut marks = vec![9; n];
+    let (mut starts, mut ends, mut tasks) = (vec![9; 2 * n - 1], vec![9; 2 * n - 1], vec![9; 2 * n - 1]);
+    let said = plan(file, &mut marks, &mut starts, &mut ends, &mut tasks);
+    let runs = (0..said.runs).map(|i| (starts[i], ends[i], tasks[i])).collect();
+    (said, marks, runs)
+}
+
+/// The samples of the rules that a plan or a move shows, P4 to P12, and the limits on the count.
+fn samples() -> Result<usize, String> {
+    type Fields<'a> = &'a [(u32, u32, u32, u32)];
+    type Runs<'a> = &'a [(u32, u32, u32)];
+    let file = |p, q, tasks: Fields| {
+        let mut table = Table { count: tasks.len() as u32, p, q, ..Table::ZERO };
+        for (place, &(release, deadline, mandatory, optional)) in table.tasks.iter_mut().zip(tasks) {
+            *place = reference::Task { release, deadline, mandatory, optional };
+        }
+        inputs::pack(&table)
+    };
+    let three: Fields = &[(0, 10, 2, 3), (2, 8, 1, 3), (4, 6, 1, 1)];
+    let planned = |kept, discarded, marks: &[u8], runs: Runs| {
+        (Planned { number: 0, place: 0, kept, discarded, runs: runs.len() }, marks.to_vec(), runs.to_vec())
+    };
+    let refused = |number, place, n: usize| (Planned { number, place, kept: 0, discarded: 0, runs: 0 }, vec![9; n], vec![]);
+    let four = [0x02, 0x0c, 0x80, 0x02, 0x00, 0x00, 0x00, 0x01, 0x00, 0xc8, 0x01, 0x90];
+    let plans = [
+        ("P4", four.to_vec(), planned(1, 0, &[1], &[(50, 200, 0)])),
+        ("P4 packed", file(100, 1, &[(0, 2, 100, 50)]), planned(1, 0, &[1], &[(50, 200, 0)])),
+        ("P5", file(100, 1, &[(0, 2, 200, 1)]), planned(0, 1, &[0], &[(0, 200, 0)])),
+        ("P6", file(100, 1, &[(0, 2, 201, 0)]), refused(8, 0, 1)),
+        ("P7", file(100, 1, &[(0, 2, 0, 0)]), planned(0, 0, &[1], &[])),
+        ("P8", file(1, 1, three), planned(2, 1, &[1, 0, 1], &[(2, 4, 0), (4, 6, 2), (6, 7, 0), (7, 8, 1), (8, 10, 0)])),
+        ("P9", file(1, 1, &[(0, 5, 0, 0), (5, 9, 0, 0)]), refused(7, 1, 2)),
+        ("P10", file(1, 1, &[(0, 4, 0, 3), (0, 4, 0, 3)]), planned(1, 1, &[0, 1], &[(1, 4, 1)])),
+        ("P11", file(5, 4, &[(1, 2, 1, 0)]), refused(8, 0, 1)),
+    ];
+    for (name, file, expected) in &plans {
+        for (planner, plan) in PLANNERS {
+            same(&format!("{name}, {planner} and the rules"), &plan_with(plan, file, expected.1.len()), expected, || hex(file))?;
+        }
+    }
+    let eight = file(1, 1, three);
+    let moved = Written { number: 10, place: 0, bytes: 0 };
+    same("P12", &ffi::shift(&eight, -1, &mut [0; 28]), &moved, || hex(&eight))?;
+    same("P12, reference", &Written::from(reference::shift(&eight, -1, &mut [0; 28])), &moved, || hex(&eight))?;
+    let full = file(1, 1, &[(0, 1, 0, 0); 64]);
+    same("64 tasks are read", &ffi::read(&full).number, &0, || hex(&full))?;
+    let mut over = vec![0; 508];
+    over[0] = 65 << 1;
+    same("65 give 2", &(ffi::read(&over).number, ffi::read(&over).place), &(2, 0), || hex(&over))?;
+    Ok(2 * plans.len() + 4)
+}
+
+/// Outcomes counted apart beside the refusals: a judge's yes; a plan that discards.
+const YES: u32 = 20;
+const DROPPED: u32 = 21;
+
+struct Call {
+    name: &'static str,
+    cases: u64,
+    one: fn(&mut Random) -> Outcome,
+}
+
+const CALLS: [Call; 8] = [
+    Call { name: "read", cases: 150_000, one: compare_read },
+    Call { name: "write", cases: 100_000, one: compare_write },
+    Call { name: "shift", cases: 100_000, one: compare_shift },
+    Call { name: "plan", cases: 200_000, one: compare_plan },
+    Call { name: "judge", cases: 150_000, one: compare_judge },
+    Call { name: "judge-long", cases: 400, one: compare_judge_long },
+    Call { name: "busy", cases: 60_000, one: compare_busy },
+    Call { name: "brute", cases: 40_000, one: compare_brute },
+];
+
+/// One case; a seed gives every call inputs of its own.
+fn case(index: usize, seed: u64) -> Outcome {
+    let mut random = Random::new(seed | (index as u64 + 1) << 48);
+    (CALLS[index].one)(&mut random).map_err(|what| format!("DIFFERENCE in {} of seed {seed}: {what}", CALLS[index].name))
+}
+
+fn all() -> Result<(), String> {
+    let begun = Instant::now();
+    println!("{:<10} {:>7} cases, no difference", "samples", samples()?);
+    let mut total = 0;
+    for (index, call) in CALLS.iter().enumerate() {
+        let mut counts = [0u64; 22];
+        for seed in 0..call.cases {
+            counts[case(index, seed)? as usize] += 1;
+        }
+        total += call.cases;
+        let kinds: Vec<String> = (0..counts.len())
+            .filter(|&number| counts[number] > 0)
+            .map(|number| match (call.name, number) {
+                ("judge" | "judge-long", 0) => format!("no: {}", counts[0]),
+                ("plan" | "brute", 0) => format!("all kept: {}", counts[0]),
+                (_, 0) => format!("accepted: {}", counts[0]),
+                (_, 20) => format!("yes: {}", counts[20]),
+                (_, 21) => format!("some discarded: {}", counts[21]),
+                _ => format!("refusal {number}: {}", counts[number]),
+            })
+            .collect();
+        println!("{:<10} {:>7} cases, no difference ({})", call.name, call.cases, kinds.join(", "));
+    }
+    println!("in all     {total:>7} cases, no difference, in {:.1} s", begun.elapsed().as_secs_f64());
+    Ok(())
+}
+
+fn main() -> ExitCode {
+    let arguments: Vec<String> = std::env::args().skip(1).collect();
+    let done = match arguments.as_slice() {
+        [] => all(),
+        [name, seed] => match (CALLS.iter().position(|call| call.name == name), seed.parse()) {
+            (Some(index), Ok(seed)) => case(index, seed).map(|number| println!("{name} of seed {seed}: no difference (number {number})")),
+            _ => Err("usage: compare [CALL SEED]".into()),
+        },
+        _ => Err("usage: compare [CALL SEED]".into()),
+    };
+    match done {
+        Ok(()) => ExitCode::SUCCESS,
+        Err(what) => {
+            println!("{what}");
+            ExitCode::FAILURE
+        }
+    }
+}

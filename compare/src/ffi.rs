@@ -1,0 +1,212 @@
+//! The six calls of the proved library, as include/planner.h declares them, each in a safe function.
+
+use crate::reference::{Plan, Refusal, Table, Verdict};
+
+/// The reply of reading.
+#[repr(C)]
+#[derive(Clone, Copy, Debug, PartialEq, Eq)]
+pub struct TableRead {
+    pub number: u32,
+    pub place: usize,
+    pub table: Table,
+}
+
+/// The reply of writing and of moving.
+#[repr(C)]
+#[derive(Clone, Copy, Debug, PartialEq, Eq)]
+pub struct Written {
+    pub number: u32,
+    pub place: usize,
+    pub bytes: usize,
+}
+
+/// The reply of planning.
+#[repr(C)]
+#[derive(Clone, Copy, Debug, PartialEq, Eq)]
+pub struct Planned {
+    pub number: u32,
+    pub place: usize,
+    pub kept: u32,
+    pub discarded: u32,
+    pub runs: usize,
+}
+
+/// The reply of judging.
+#[repr(C)]
+#[derive(Clone, Copy, Debug, PartialEq, Eq)]
+pub struct Judged {
+    pub number: u32,
+    pub place: usize,
+    pub yes: bool,
+    pub kept: u32,
+    pub discarded: u32,
+}
+
+/// The reply of the busy count.
+#[repr(C)]
+#[derive(Clone, Copy, Debug, PartialEq, Eq)]
+pub struct BusyCount {
+    pub number: u32,
+    pub place: usize,
+    pub ticks: u64,
+}
+
+extern "C" {
+    fn planner_read(file: *const u8, file_length: usize) -> TableRead;
+    fn planner_write(table: Table, out: *mut u8, out_length: usize) -> Written;
+    fn planner_shift(file: *const u8, file_length: usize, frames: i32, out: *mut u8, out_length: usize) -> Written;
+    fn planner_plan(
+        file: *const u8,
+        file_length: usize,
+        marks: *mut u8,
+        marks_length: usize,
+        starts: *mut u32,
+        starts_length: usize,
+        ends: *mut u32,
+        ends_length: usize,
+        tasks: *mut u32,
+        tasks_length: usize,
+    ) -> Planned;
+    fn planner_judge(
+        file: *const u8,
+        file_length: usize,
+        marks: *const u8,
+        marks_length: usize,
+        starts: *const u32,
+        starts_length: usize,
+        ends: *const u32,
+        ends_length: usize,
+        tasks: *const u32,
+        tasks_length: usize,
+    ) -> Judged;
+    fn planner_busy(
+        starts: *const u32,
+        starts_length: usize,
+        ends: *const u32,
+        ends_length: usize,
+        tasks: *const u32,
+        tasks_length: usize,
+        a: u32,
+        b: u32,
+    ) -> BusyCount;
+}
+
+// No call has a precondition. A slice's pointer is never null, and slices that are lent by `&mut` don't overlap others.
+
+pub fn read(file: &[u8]) -> TableRead {
+    unsafe { planner_read(file.as_ptr(), file.len()) }
+}
+
+pub fn write(table: &Table, out: &mut [u8]) -> Written {
+    unsafe { planner_write(*table, out.as_mut_ptr(), out.len()) }
+}
+
+pub fn shift(file: &[u8], frames: i32, out: &mut [u8]) -> Written {
+    unsafe { planner_shift(file.as_ptr(), file.len(), frames, out.as_mut_ptr(), out.len()) }
+}
+
+pub fn plan(file: &[u8], marks: &mut [u8], starts: &mut [u32], ends: &mut [u32], tasks: &mut [u32]) -> Planned {
+    unsafe {
+        planner_plan(
+            file.as_ptr(),
+            file.len(),
+            marks.as_mut_ptr(),
+            marks.len(),
+            starts.as_mut_ptr(),
+            starts.len(),
+            ends.as_mut_ptr(),
+            ends.len(),
+            tasks.as_mut_ptr(),
+            tasks.len(),
+        )
+    }
+}
+
+pub fn judge(file: &[u8], marks: &[u8], starts: &[u32], ends: &[u32], tasks: &[u32]) -> Judged {
+    unsafe {
+        planner_judge(
+            file.as_ptr(),
+            file.len(),
+            marks.as_ptr(),
+            marks.len(),
+            starts.as_ptr(),
+            starts.len(),
+            ends.as_ptr(),
+            ends.len(),
+            tasks.as_ptr(),
+            tasks.len(),
+        )
+    }
+}
+
+pub fn busy(starts: &[u32], ends: &[u32], tasks: &[u32], a: u32, b: u32) -> BusyCount {
+    unsafe { planner_busy(starts.as_ptr(), starts.len(), ends.as_ptr(), ends.len(), tasks.as_ptr(), tasks.len(), a, b) }
+}
+
+// The whole reply that a call owes for what the reference says: parts that are not named are 0.
+
+impl From<Result<Table, Refusal>> for TableRead {
+    fn from(said: Result<Table, Refusal>) -> TableRead {
+        match said {
+            Ok(table) => TableRead { number: 0, place: 0, table },
+            Err(Refusal { number, place }) => TableRead { number, place, table: Table::ZERO },
+        }
+    }
+}
+
+impl From<Result<usize, Refusal>> for Written {
+    fn from(said: Result<usize, Refusal>) -> Written {
+        match said {
+            Ok(bytes) => Written { number: 0, place: 0, bytes },
+            Err(Refusal { number, place }) => Written { number, place, bytes: 0 },
+        }
+    }
+}
+
+impl From<Result<Plan, Refusal>> for Planned {
+    fn from(said: Result<Plan, Refusal>) -> Planned {
+        match said {
+            Ok(Plan { kept, discarded, runs }) => Planned { number: 0, place: 0, kept, discarded, runs },
+            Err(Refusal { number, place }) => Planned { number, place, kept: 0, discarded: 0, runs: 0 },
+        }
+    }
+}
+
+impl From<Result<Verdict, Refusal>> for Judged {
+    fn from(said: Result<Verdict, Refusal>) -> Judged {
+        match said {
+            Ok(Verdict { yes, kept, discarded }) => Judged { number: 0, place: 0, yes, kept, discarded },
+            Err(Refusal { number, place }) => Judged { number, place, yes: false, kept: 0, discarded: 0 },
+        }
+    }
+}
+
+impl From<Result<u64, Refusal>> for BusyCount {
+    fn from(said: Result<u64, Refusal>) -> BusyCount {
+        match said {
+            Ok(ticks) => BusyCount { number: 0, place: 0, ticks },
+            Err(Refusal { number, place }) => BusyCount { number, place, ticks: 0 },
+        }
+    }
+}
+
+/// Where the six calls are, for calling them on a stack of one's own.
+pub(crate) struct Addresses {
+    pub read: usize,
+    pub write: usize,
+    pub shift: usize,
+    pub plan: usize,
+    pub judge: usize,
+    pub busy: usize,
+}
+
+pub(crate) fn addresses() -> Addresses {
+    Addresses {
+        read: planner_read as *const () as usize,
+        write: planner_write as *const () as usize,
+        shift: planner_shift as *const () as usize,
+        plan: planner_plan as *const () as usize,
+        judge: planner_judge as *const () as usize,
+        busy: planner_busy as *const () as usize,
+    }
+}

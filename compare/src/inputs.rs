@@ -1,0 +1,466 @@
+//! Tables, files and run lists made at random: valid ones, and ones that are damaged.
+
+use crate::random::Random;
+use crate::reference::{self, deadline_tick, release_tick, Table, Task, LAST_FRAME, MAX_PERIOD, MAX_TASKS, MAX_TICKS};
+
+/// How the lengths of a table's parts compare with the ticks that its windows have.
+#[derive(Clone, Copy, Debug, PartialEq, Eq)]
+pub enum Load {
+    /// Everything fits.
+    Loose,
+    /// Mandatory parts fit; many optional parts don't.
+    Tight,
+    /// Few lengths, many of them equal, many of them 0.
+    Few,
+    /// Lengths at and near the limit.
+    Large,
+    /// Any lengths, so that mandatory parts often don't fit.
+    Any,
+}
+
+const LOADS: [Load; 8] = [Load::Loose, Load::Tight, Load::Tight, Load::Tight, Load::Few, Load::Few, Load::Large, Load::Any];
+
+/// A number of tasks: all of 1 to 64, small ones more often.
+pub fn task_count(random: &mut Random) -> usize {
+    let most = random.pick(&[1, 2, 4, 8, 16, 32, 64, 64]);
+    match random.up_to(9) {
+        0 => most as usize,
+        _ => random.between(1, most) as usize,
+    }
+}
+
+/// A legal period.
+pub fn period(random: &mut Random) -> (u32, u32) {
+    match random.up_to(9) {
+        0..=2 => (1, 1),
+        3 => (1001, 10),
+        4 => (MAX_PERIOD, random.pick(&[1, 2, MAX_PERIOD - 1, MAX_PERIOD])),
+        5 => (5, 4),
+        6 => (random.between(1, 40), 1),
+        _ => {
+            let p = random.between(1, MAX_PERIOD);
+            let q = random.between(1, p);
+            (p, q)
+        }
+    }
+}
+
+/// A chain of n windows, each inside the next, some equal.
+fn windows(random: &mut Random, n: usize) -> Vec<(u32, u32)> {
+    let step = random.pick(&[0, 1, 1, 2, 3, 10, 100, 1000]);
+    let longest = random.pick(&[1, 2, 5, 50, 1000]);
+    let inner = random.between(1, longest);
+    let mut release = random.up_to(LAST_FRAME - inner);
+    if random.once_in(2) {
+        release = release.min(n as u32 * step + 5);
+    }
+    let mut deadline = release + inner;
+    let mut chain = Vec::with_capacity(n);
+    for _ in 0..n {
+        chain.push((release, deadline));
+        if random.up_to(9) > 1 {
+            release -= random.up_to(step).min(release);
+            deadline += random.up_to(step).min(LAST_FRAME - deadline);
+        }
+    }
+    if random.once_in(20) {
+        chain[n - 1] = (0, LAST_FRAME);
+    }
+    chain
+}
+
+/// A legal table of n tasks with nested windows.
+pub fn nested_table(random: &mut Random, n: usize, (p, q): (u32, u32), load: Load) -> Table {
+    let chain = windows(random, n);
+    let mut positions: Vec<usize> = (0..n).collect();
+    match random.up_to(3) {
+        0 => {}
+        1 => positions.reverse(),
+        _ => {
+            for i in (1..n).rev() {
+                positions.swap(i, random.index(i + 1));
+            }
+        }
+    }
+    let mut table = Table { count: n as u32, p, q, ..Table::ZERO };
+    let mut used = 0;
+    let few = random.between(1, 4);
+    for (&(release, deadline), &position) in chain.iter().zip(&positions) {
+        let ticks = deadline_tick(deadline, p, q).saturating_sub(release_tick(release, p, q));
+        // What is left in this window, shared with some of those to come.
+        let free = ticks.saturating_sub(used) / random.pick(&[1, 2, 2, 4, 8]);
+        let (mandatory, optional) = match load {
+            Load::Loose => {
+                let mandatory = random.up_to(free / 2);
+                (mandatory, random.up_to(free - mandatory))
+            }
+            Load::Tight => {
+                let part = random.pick(&[1, 2, 4]);
+                let mandatory = random.up_to(free / part);
+                (mandatory, random.up_to((free - mandatory / 2).saturating_mul(3)))
+            }
+            Load::Few => (random.up_to(few).min(free), random.up_to(few)),
+            Load::Large => {
+                (if random.once_in(2) { random.up_to(free) } else { random.between(MAX_TICKS - 1, MAX_TICKS).min(free) }, MAX_TICKS - random.up_to(2))
+            }
+            Load::Any => (random.up_to(MAX_TICKS) >> random.up_to(14), random.up_to(MAX_TICKS) >> random.up_to(14)),
+        };
+        let mut task = Task { release, deadline, mandatory: mandatory.min(MAX_TICKS), optional: optional.min(MAX_TICKS) };
+        if random.once_in(8) {
+            task.optional = 0;
+        }
+        if random.once_in(12) {
+            task.mandatory = 0;
+        }
+        if random.once_in(200) {
+            task.mandatory = (task.mandatory + random.up_to(ticks)).min(MAX_TICKS);
+        }
+        used += match load {
+            Load::Loose => task.mandatory + task.optional,
+            _ => task.mandatory,
+        };
+        table.tasks[position] = task;
+    }
+    table
+}
+
+/// A legal table, whatever its size, period and load.
+pub fn table(random: &mut Random) -> Table {
+    let n = task_count(random);
+    let period = period(random);
+    let load = random.pick(&LOADS);
+    nested_table(random, n, period, load)
+}
+
+/// A table with one to three faults, some of which may do no harm.
+pub fn faulty_table(random: &mut Random) -> Table {
+    let mut table = table(random);
+    for _ in 0..random.between(1, 3) {
+        let n = (table.count as usize).min(MAX_TASKS);
+        let k = random.index(n.max(1));
+        match random.up_to(9) {
+            0 => table.count = random.pick(&[0, 1, 63, 64, 65, 66, 127, 128, u32::MAX]),
+            1 => table.p = random.pick(&[0, 1, 2, MAX_PERIOD, MAX_PERIOD + 1, 8191, u32::MAX]),
+            2 => table.q = random.pick(&[0, 1, 2, MAX_PERIOD, MAX_PERIOD + 1, 8191, u32::MAX]),
+            3 => table.q = random.any(),
+            4 => table.tasks[k].release = random.any(),
+            5 => table.tasks[k].deadline = random.any(),
+            6 => table.tasks[k].mandatory = random.pick(&[MAX_TICKS, MAX_TICKS + 1, u32::MAX, 0]),
+            7 => table.tasks[k].optional = random.pick(&[MAX_TICKS, MAX_TICKS + 1, u32::MAX, 0]),
+            8 => {
+                let by = random.between(1, 3);
+                table.tasks[k].release = (table.tasks[k].release + by).min(LAST_FRAME);
+                table.tasks[k].deadline = (table.tasks[k].deadline + by).min(LAST_FRAME);
+            }
+            _ => {
+                // Places beyond the count don't matter.
+                for task in &mut table.tasks[n..] {
+                    *task = Task { release: random.any(), deadline: random.any(), mandatory: random.any(), optional: random.any() };
+                }
+            }
+        }
+    }
+    table
+}
+
+/// The fields of a table packed into bytes with no check; wider fields lose their high bits. Padding is 0.
+pub fn pack(table: &Table) -> Vec<u8> {
+    let mut bits = Vec::new();
+    let mut put = |width: u32, value: u32| bits.extend((0..width).rev().map(|i| value >> i & 1 == 1));
+    put(7, table.count);
+    put(12, table.p);
+    put(12, table.q);
+    for task in table.tasks.iter().take(table.count as usize) {
+        put(17, task.release);
+        put(17, task.deadline);
+        put(14, task.mandatory);
+        put(14, task.optional);
+    }
+    bits.chunks(8).map(|byte| byte.iter().enumerate().fold(0, |sum, (i, &bit)| sum | u8::from(bit) << (7 - i))).collect()
+}
+
+/// A file: half of them legal, the others damaged in many ways.
+pub fn file(random: &mut Random) -> Vec<u8> {
+    match random.up_to(19) {
+        0..=9 => pack(&table(random)),
+        10 => {
+            let length = random.up_to(20) as usize;
+            random.bytes(length)
+        }
+        11 => {
+            // Random bytes of just the length that their count needs.
+            let n = random.between(1, 64);
+            let mut file = random.bytes(reference::file_length(n as usize));
+            file[0] = (n << 1) as u8 | file[0] & 1;
+            if random.up_to(3) > 0 {
+                let last = file.len() - 1;
+                file[last] &= 0x80;
+            }
+            file
+        }
+        12..=14 => pack(&faulty_table(random)),
+        _ => {
+            let mut file = pack(&table(random));
+            for _ in 0..random.between(1, 2) {
+                damage(random, &mut file);
+            }
+            file
+        }
+    }
+}
+
+fn damage(random: &mut Random, file: &mut Vec<u8>) {
+    let length = file.len();
+    match random.up_to(7) {
+        0 => file.truncate(random.up_to(length as u32) as usize),
+        1 => file.truncate(length.saturating_sub(random.between(1, 4) as usize)),
+        2 => {
+            let more = random.between(1, 9) as usize;
+            let byte = random.pick(&[0, 0xff, 0x5a]);
+            file.resize(length + more, byte);
+        }
+        3 if length > 0 => {
+            // One bit anywhere.
+            let bit = random.index(8 * length);
+            file[bit / 8] ^= 0x80 >> (bit % 8);
+        }
+        4 if length > 0 => {
+            // One of the last bits, where the padding is.
+            let bit = 8 * length - 1 - random.index(8);
+            file[bit / 8] ^= 0x80 >> (bit % 8);
+        }
+        5 if length > 0 => file[0] = random.word() as u8,
+        6 if length > 3 => {
+            // One bit of the period.
+            let bit = random.between(7, 30) as usize;
+            file[bit / 8] ^= 0x80 >> (bit % 8);
+        }
+        _ if length > 0 => {
+            let at = random.index(length);
+            file[at] = random.word() as u8;
+        }
+        _ => file.push(0),
+    }
+}
+
+/// The length of a lent list, around the length that is needed.
+pub fn lent_length(random: &mut Random, needed: usize) -> usize {
+    match random.up_to(15) {
+        0 => 0,
+        1 => needed.saturating_sub(1),
+        2 => random.up_to(needed as u32) as usize,
+        3..=8 => needed,
+        9 => needed + 1,
+        _ => needed + random.up_to(80) as usize,
+    }
+}
+
+/// Run columns.
+#[derive(Clone, Debug, Default, PartialEq, Eq)]
+pub struct Columns {
+    pub starts: Vec<u32>,
+    pub ends: Vec<u32>,
+    pub tasks: Vec<u32>,
+}
+
+impl Columns {
+    pub fn push(&mut self, (start, end, task): (u32, u32, u32)) {
+        self.starts.push(start);
+        self.ends.push(end);
+        self.tasks.push(task);
+    }
+
+    fn from_runs(runs: &[(u32, u32, u32)]) -> Columns {
+        let mut columns = Columns::default();
+        runs.iter().for_each(|&run| columns.push(run));
+        columns
+    }
+}
+
+/// A running of a table that need not follow the placing rule: work from the earliest free ticks, in nest order, for a keep list made by dropping
+/// parts of the planner's own at random. The list is given as marks.
+fn other_running(random: &mut Random, table: &Table, marks: &mut [u8]) -> Vec<(u32, u32, u32)> {
+    for mark in marks.iter_mut() {
+        if random.once_in(4) {
+            *mark = 0;
+        }
+    }
+    let mut order: Vec<usize> = (0..table.count as usize).collect();
+    order.sort_by_key(|&k| table.tasks[k].deadline - table.tasks[k].release);
+    let mut runs: Vec<(u32, u32, u32)> = Vec::new();
+    for k in order {
+        let task = table.tasks[k];
+        let mut work = task.mandatory + if marks[k] == 1 { task.optional } else { 0 };
+        let mut from = release_tick(task.release, table.p, table.q);
+        let deadline = deadline_tick(task.deadline, table.p, table.q);
+        let mut at = 0;
+        while work > 0 && from < deadline {
+            let to = runs.get(at).map_or(deadline, |run| run.0);
+            let taken = work.min(to.saturating_sub(from));
+            if taken > 0 {
+                runs.insert(at, (from, from + taken, k as u32));
+                work -= taken;
+                at += 1;
+            }
+            match runs.get(at) {
+                Some(run) => from = run.1,
+                None => break,
+            }
+            at += 1;
+        }
+    }
+    runs
+}
+
+/// A file, a keep list and run columns for the judge: plans, other runnings, and ones that were damaged.
+pub fn judgement(random: &mut Random) -> (Vec<u8>, Vec<u8>, Columns) {
+    let mut file = file(random);
+    let Ok(table) = reference::read(&file) else {
+        let n = random.up_to(70) as usize;
+        let runs = random.up_to(70) as usize;
+        return (file, random.bytes(n), random_columns(random, runs));
+    };
+    let n = table.count as usize;
+    let mut marks = vec![0; n];
+    let (mut starts, mut ends, mut tasks) = (vec![0; 2 * n - 1], vec![0; 2 * n - 1], vec![0; 2 * n - 1]);
+    let planned = reference::plan(&file, &mut marks, &mut starts, &mut ends, &mut tasks);
+    let mut runs: Vec<(u32, u32, u32)> = match planned {
+        Ok(plan) => (0..plan.runs).map(|i| (starts[i], ends[i], tasks[i])).collect(),
+        Err(_) => (0..random.up_to(9)).map(|_| (random.any(), random.any(), random.up_to(n as u32))).collect(),
+    };
+    if planned.is_ok() && random.once_in(3) {
+        runs = other_running(random, &table, &mut marks);
+    }
+    for (mark, task) in marks.iter_mut().zip(table.tasks()) {
+        if task.optional == 0 && random.once_in(2) {
+            *mark ^= 1;
+        }
+    }
+    if random.once_in(3) {
+        split(random, &mut runs);
+    }
+    if random.once_in(2) {
+        for _ in 0..random.between(1, 2) {
+            damage_runs(random, &mut runs, n as u32);
+        }
+    }
+    if random.once_in(6) {
+        let at = random.index(n);
+        marks[at] = random.pick(&[0, 1, 1, 2, 3, 128, 255]);
+    }
+    if random.once_in(15) {
+        let length = random.pick(&[0, n - 1, n + 1, 64, 65]);
+        marks.resize(length, random.pick(&[0, 1, 2]));
+    }
+    let mut columns = Columns::from_runs(&runs);
+    if random.once_in(20) {
+        unequal(random, &mut columns);
+    }
+    if random.once_in(40) {
+        damage(random, &mut file);
+    }
+    (file, marks, columns)
+}
+
+/// Cuts runs in two; the two then touch.
+fn split(random: &mut Random, runs: &mut Vec<(u32, u32, u32)>) {
+    for _ in 0..random.between(1, 5) {
+        if runs.is_empty() {
+            return;
+        }
+        let at = random.index(runs.len());
+        let (start, end, task) = runs[at];
+        if end.saturating_sub(start) > 1 {
+            let middle = random.between(start + 1, end - 1);
+            runs[at].1 = middle;
+            runs.insert(at + 1, (middle, end, task));
+        }
+    }
+}
+
+fn damage_runs(random: &mut Random, runs: &mut Vec<(u32, u32, u32)>, n: u32) {
+    if runs.is_empty() {
+        runs.push((random.any(), random.any(), random.up_to(n)));
+        return;
+    }
+    let at = random.index(runs.len());
+    let other = random.index(runs.len());
+    match random.up_to(11) {
+        0 => runs[at].0 = runs[at].0.wrapping_sub(1),
+        1 => runs[at].0 = runs[at].0.wrapping_add(1),
+        2 => runs[at].1 = runs[at].1.saturating_sub(1),
+        3 => runs[at].1 = runs[at].1.wrapping_add(1),
+        4 => runs[at].2 = random.pick(&[0, n - 1, n, n + 1, 64, u32::MAX]),
+        5 => runs.swap(at, other),
+        6 => {
+            runs.remove(at);
+        }
+        7 => runs.insert(at, runs[other]),
+        8 => runs[at].1 = runs[at].0,
+        9 => runs[at] = (runs[at].1, runs[at].0, runs[at].2),
+        10 => {
+            let by = random.between(1, 3);
+            runs[at].0 = runs[at].0.wrapping_add(by);
+            runs[at].1 = runs[at].1.wrapping_add(by);
+        }
+        _ => {
+            let task = runs[at].2;
+            runs[at].2 = runs[other].2;
+            runs[other].2 = task;
+        }
+    }
+}
+
+/// Makes the columns unequal in length, or all longer than the limit.
+fn unequal(random: &mut Random, columns: &mut Columns) {
+    let length = columns.starts.len();
+    let other = random.pick(&[0, length.saturating_sub(1), length + 1, 4096, 4097]);
+    match random.up_to(3) {
+        0 => columns.starts.resize(other, 7),
+        1 => columns.ends.resize(other, 7),
+        2 => columns.tasks.resize(other, 0),
+        _ => {
+            let all = random.pick(&[4095, 4096, 4097]);
+            columns.starts.resize(all, 7);
+            columns.ends.resize(all, 8);
+            columns.tasks.resize(all, 0);
+        }
+    }
+}
+
+/// Run columns of any content.
+pub fn random_columns(random: &mut Random, length: usize) -> Columns {
+    let mut columns = Columns::default();
+    let ordered = random.once_in(2);
+    let mut from = 0u32;
+    for _ in 0..length {
+        let (start, end) = if ordered {
+            let start = from.saturating_add(random.up_to(5));
+            from = start.saturating_add(random.up_to(9));
+            (start, from)
+        } else {
+            (random.any(), random.any())
+        };
+        columns.push((start, end, random.up_to(70)));
+    }
+    columns
+}
+
+/// Run columns for the busy count, of every length up to beyond the limit.
+pub fn busy_columns(random: &mut Random) -> Columns {
+    let length = match random.up_to(19) {
+        0 => random.pick(&[4095, 4096, 4097, 5000]),
+        1 => random.up_to(4096) as usize,
+        2..=4 => random.up_to(8) as usize,
+        _ => random.up_to(130) as usize,
+    };
+    let mut columns = random_columns(random, length);
+    if random.once_in(50) {
+        columns.starts.iter_mut().for_each(|start| *start = 0);
+        columns.ends.iter_mut().for_each(|end| *end = u32::MAX);
+    }
+    if random.once_in(12) {
+        unequal(random, &mut columns);
+    }
+    columns
+}

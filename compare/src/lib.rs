@@ -1,0 +1,14 @@
+//! The rules of the planner a second time, in plain Rust, beside the proved library.
+//!
+//! - `reference`: the independent implementation, written from the rules alone.
+//! - `ffi`: the six calls of the proved library.
+//! - `random`, `inputs`: the seeded generator, and the tables, files and run lists made with it.
+//! - `brute`: the best plan of a small table by trying every keep list.
+//! - `stack`: how much stack a call uses.
+
+pub mod brute;
+pub mod ffi;
+pub mod inputs;
+pub mod random;
+pub mod reference;
+pub mod stack;

@@ -1,0 +1,501 @@
+//! The independent implementation: reading, writing, moving, planning, judging and the busy count, written from the rules of the planner and not
+//! from the proved library. Only std, no unsafe code.
+
+use std::collections::VecDeque;
+
+pub const MAX_TASKS: usize = 64;
+pub const MAX_RUNS: usize = 4096;
+pub const LAST_FRAME: u32 = 131_071;
+pub const MAX_PERIOD: u32 = 4_095;
+pub const MAX_TICKS: u32 = 16_383;
+
+const COUNT_BITS: u32 = 7;
+const PERIOD_BITS: u32 = 12;
+const FRAME_BITS: u32 = 17;
+const TICK_BITS: u32 = 14;
+const HEADER_BITS: usize = (COUNT_BITS + 2 * PERIOD_BITS) as usize;
+const TASK_BITS: usize = (2 * FRAME_BITS + 2 * TICK_BITS) as usize;
+
+/// A task: its window in frames, its two lengths in ticks.
+#[repr(C)]
+#[derive(Clone, Copy, Debug, Default, PartialEq, Eq)]
+pub struct Task {
+    pub release: u32,
+    pub deadline: u32,
+    pub mandatory: u32,
+    pub optional: u32,
+}
+
+/// A table: its task count, its period p/q, and places for its tasks.
+#[repr(C)]
+#[derive(Clone, Copy, Debug, PartialEq, Eq)]
+pub struct Table {
+    pub count: u32,
+    pub p: u32,
+    pub q: u32,
+    pub tasks: [Task; MAX_TASKS],
+}
+
+impl Table {
+    /// The table that is 0 throughout.
+    pub const ZERO: Table = Table { count: 0, p: 0, q: 0, tasks: [Task { release: 0, deadline: 0, mandatory: 0, optional: 0 }; MAX_TASKS] };
+
+    /// The tasks up to the count.
+    pub fn tasks(&self) -> &[Task] {
+        &self.tasks[..self.count as usize]
+    }
+}
+
+/// A refusal: its number and its place.
+#[derive(Clone, Copy, Debug, PartialEq, Eq)]
+pub struct Refusal {
+    pub number: u32,
+    pub place: usize,
+}
+
+fn refuse<T>(number: u32, place: usize) -> Result<T, Refusal> {
+    Err(Refusal { number, place })
+}
+
+/// What an accepted planning call replies.
+#[derive(Clone, Copy, Debug, PartialEq, Eq)]
+pub struct Plan {
+    pub kept: u32,
+    pub discarded: u32,
+    pub runs: usize,
+}
+
+/// What an accepted judging call replies.
+#[derive(Clone, Copy, Debug, PartialEq, Eq)]
+pub struct Verdict {
+    pub yes: bool,
+    pub kept: u32,
+    pub discarded: u32,
+}
+
+// ---- the frame clock
+
+/// The least tick not before `frame` × p / q.
+pub fn release_tick(frame: u32, p: u32, q: u32) -> u32 {
+    (frame * p).div_ceil(q)
+}
+
+/// The greatest tick not after `frame` × p / q.
+pub fn deadline_tick(frame: u32, p: u32, q: u32) -> u32 {
+    frame * p / q
+}
+
+// ---- the table file
+
+/// The bytes of a file of `count` tasks.
+pub fn file_length(count: usize) -> usize {
+    (HEADER_BITS + TASK_BITS * count).div_ceil(8)
+}
+
+/// Takes fields out of bytes, the most significant bit first.
+struct BitReader<'a> {
+    bytes: std::slice::Iter<'a, u8>,
+    held: u64,
+    bits: u32,
+}
+
+impl<'a> BitReader<'a> {
+    fn new(bytes: &'a [u8]) -> Self {
+        BitReader { bytes: bytes.iter(), held: 0, bits: 0 }
+    }
+
+    fn take(&mut self, width: u32) -> u32 {
+        while self.bits < width {
+            let byte = self.bytes.next().copied().unwrap_or(0);
+            self.held = self.held << 8 | u64::from(byte);
+            self.bits += 8;
+        }
+        self.bits -= width;
+        (self.held >> self.bits) as u32 & ((1 << width) - 1)
+    }
+}
+
+/// Puts fields into bytes, the most significant bit first.
+struct BitWriter<'a> {
+    bytes: std::slice::IterMut<'a, u8>,
+    held: u64,
+    bits: u32,
+}
+
+impl<'a> BitWriter<'a> {
+    fn new(bytes: &'a mut [u8]) -> Self {
+        BitWriter { bytes: bytes.iter_mut(), held: 0, bits: 0 }
+    }
+
+    fn put(&mut self, width: u32, value: u32) {
+        self.held = self.held << width | u64::from(value);
+        self.bits += width;
+        while self.bits >= 8 {
+            self.bits -= 8;
+            if let Some(byte) = self.bytes.next() {
+                *byte = (self.held >> self.bits) as u8;
+            }
+        }
+    }
+
+    /// Fills the rest of the last byte with 0.
+    fn finish(mut self) {
+        if self.bits > 0 {
+            self.put(8 - self.bits, 0);
+        }
+    }
+}
+
+fn bad_count(count: u32) -> bool {
+    count == 0 || count as usize > MAX_TASKS
+}
+
+fn bad_period(p: u32, q: u32) -> bool {
+    !(1..=MAX_PERIOD).contains(&p) || !(1..=MAX_PERIOD).contains(&q) || p < q
+}
+
+fn contains(outer: &Task, inner: &Task) -> bool {
+    outer.release <= inner.release && inner.deadline <= outer.deadline
+}
+
+/// Refusals 6 and 7.
+fn check_windows(tasks: &[Task]) -> Result<(), Refusal> {
+    if let Some(k) = tasks.iter().position(|t| t.release >= t.deadline) {
+        return refuse(6, k);
+    }
+    for (k, task) in tasks.iter().enumerate() {
+        let nested = |earlier: &Task| contains(earlier, task) || contains(task, earlier);
+        if !tasks[..k].iter().all(nested) {
+            return refuse(7, k);
+        }
+    }
+    Ok(())
+}
+
+/// Reading.
+pub fn read(file: &[u8]) -> Result<Table, Refusal> {
+    if file.len() < 4 {
+        return refuse(1, file.len());
+    }
+    let mut bits = BitReader::new(file);
+    let count = bits.take(COUNT_BITS);
+    if bad_count(count) {
+        return refuse(2, 0);
+    }
+    let needed = file_length(count as usize);
+    if file.len() < needed {
+        return refuse(1, file.len());
+    }
+    if file.len() > needed {
+        return refuse(3, needed);
+    }
+    let padding = 8 * needed - (HEADER_BITS + TASK_BITS * count as usize);
+    if file[needed - 1] & ((1 << padding) - 1) != 0 {
+        return refuse(4, 0);
+    }
+    let p = bits.take(PERIOD_BITS);
+    let q = bits.take(PERIOD_BITS);
+    if bad_period(p, q) {
+        return refuse(5, 0);
+    }
+    let mut table = Table { count, p, q, ..Table::ZERO };
+    for task in &mut table.tasks[..count as usize] {
+        *task =
+            Task { release: bits.take(FRAME_BITS), deadline: bits.take(FRAME_BITS), mandatory: bits.take(TICK_BITS), optional: bits.take(TICK_BITS) };
+    }
+    check_windows(table.tasks())?;
+    Ok(table)
+}
+
+/// The file of a legal table, into a list of exactly its length.
+fn encode(table: &Table, file: &mut [u8]) {
+    let mut bits = BitWriter::new(file);
+    bits.put(COUNT_BITS, table.count);
+    bits.put(PERIOD_BITS, table.p);
+    bits.put(PERIOD_BITS, table.q);
+    for task in table.tasks() {
+        bits.put(FRAME_BITS, task.release);
+        bits.put(FRAME_BITS, task.deadline);
+        bits.put(TICK_BITS, task.mandatory);
+        bits.put(TICK_BITS, task.optional);
+    }
+    bits.finish();
+}
+
+/// Writing; replies the number of bytes written.
+pub fn write(table: &Table, out: &mut [u8]) -> Result<usize, Refusal> {
+    if bad_count(table.count) {
+        return refuse(2, 0);
+    }
+    if bad_period(table.p, table.q) {
+        return refuse(5, 0);
+    }
+    let too_wide = |t: &Task| t.release > LAST_FRAME || t.deadline > LAST_FRAME || t.mandatory > MAX_TICKS || t.optional > MAX_TICKS;
+    if let Some(k) = table.tasks().iter().position(too_wide) {
+        return refuse(12, k);
+    }
+    check_windows(table.tasks())?;
+    let needed = file_length(table.count as usize);
+    let Some(file) = out.get_mut(..needed) else {
+        return refuse(9, 0);
+    };
+    encode(table, file);
+    Ok(needed)
+}
+
+/// Moving by a signed number of frames; replies the number of bytes written.
+pub fn shift(file: &[u8], frames: i32, out: &mut [u8]) -> Result<usize, Refusal> {
+    let mut table = read(file)?;
+    let moved = |frame: u32| {
+        let frame = i64::from(frame) + i64::from(frames);
+        u32::try_from(frame).ok().filter(|&f| f <= LAST_FRAME)
+    };
+    for (k, task) in table.tasks[..table.count as usize].iter_mut().enumerate() {
+        let (Some(release), Some(deadline)) = (moved(task.release), moved(task.deadline)) else {
+            return refuse(10, k);
+        };
+        (task.release, task.deadline) = (release, deadline);
+    }
+    let Some(out) = out.get_mut(..file.len()) else {
+        return refuse(9, 0);
+    };
+    encode(&table, out);
+    Ok(file.len())
+}
+
+// ---- planning
+
+/// A task in ticks.
+#[derive(Clone, Copy, Default)]
+struct Job {
+    position: usize,
+    release: u32,
+    deadline: u32,
+    mandatory: u32,
+    optional: u32,
+}
+
+/// The tasks in nest order: the window with fewer frames first, the lower position first among equals. Replies how many there are.
+fn nest_order(table: &Table) -> ([Job; MAX_TASKS], usize) {
+    let n = table.count as usize;
+    let mut order = [(0, 0); MAX_TASKS];
+    for (k, task) in table.tasks().iter().enumerate() {
+        order[k] = (task.deadline - task.release, k);
+    }
+    order[..n].sort_unstable();
+    let mut jobs = [Job::default(); MAX_TASKS];
+    for (job, &(_, position)) in jobs.iter_mut().zip(&order[..n]) {
+        let task = table.tasks[position];
+        *job = Job {
+            position,
+            release: release_tick(task.release, table.p, table.q),
+            deadline: deadline_tick(task.deadline, table.p, table.q),
+            mandatory: task.mandatory,
+            optional: task.optional,
+        };
+    }
+    (jobs, n)
+}
+
+/// Which optional parts are kept, by nest order. The mandatory parts alone fit.
+///
+/// For each number k of kept parts, `least[k]` is the least total of kept optional ticks over the fitting lists of the jobs so far that keep k parts.
+/// A smaller total fits wherever a greater one does, so it is enough to know the least. `keeps[i][k]` says that job i is kept by the list that
+/// is best by the rules among those of the jobs up to i that keep k parts.
+fn choose(jobs: &[Job]) -> [bool; MAX_TASKS] {
+    const NONE: u32 = u32::MAX / 2;
+    let mut least = [NONE; MAX_TASKS + 1];
+    least[0] = 0;
+    let mut keeps = [[false; MAX_TASKS + 1]; MAX_TASKS];
+    let mut mandatory = 0;
+    let mut parts = 0;
+    for (job, keeps) in jobs.iter().zip(&mut keeps) {
+        mandatory += job.mandatory;
+        let room = job.deadline - job.release - mandatory;
+        if job.optional > 0 {
+            parts += 1;
+            for k in (1..=parts).rev() {
+                let with = least[k - 1] + job.optional;
+                keeps[k] = with <= least[k];
+                least[k] = with.min(least[k]);
+            }
+        }
+        for total in &mut least[1..=parts] {
+            if *total > room {
+                *total = NONE;
+            }
+        }
+    }
+    let mut k = (0..=parts).rev().find(|&k| least[k] < NONE).unwrap_or(0);
+    let mut kept = [true; MAX_TASKS];
+    for (i, job) in jobs.iter().enumerate().rev() {
+        if job.optional > 0 {
+            kept[i] = k > 0 && keeps[i][k];
+            k -= usize::from(kept[i]);
+        }
+    }
+    kept
+}
+
+/// A stretch of ticks and the task that has them.
+#[derive(Clone, Copy)]
+struct Run {
+    start: u32,
+    end: u32,
+    task: u32,
+}
+
+/// The free stretches of a window, by start; no two of them touch.
+struct Free {
+    window: (u32, u32),
+    gaps: VecDeque<(u32, u32)>,
+}
+
+impl Free {
+    /// Widens the window to one that contains it. What comes to it is free.
+    fn widen(&mut self, release: u32, deadline: u32) {
+        if release < self.window.0 {
+            match self.gaps.front_mut() {
+                Some(gap) if gap.0 == self.window.0 => gap.0 = release,
+                _ => self.gaps.push_front((release, self.window.0)),
+            }
+        }
+        if self.window.1 < deadline {
+            match self.gaps.back_mut() {
+                Some(gap) if gap.1 == self.window.1 => gap.1 = deadline,
+                _ => self.gaps.push_back((self.window.1, deadline)),
+            }
+        }
+        self.window = (release, deadline);
+    }
+
+    /// Takes up to `ticks` of the latest ticks that are free and lie in one stretch.
+    fn take_latest(&mut self, ticks: u32) -> Option<(u32, u32)> {
+        let gap = self.gaps.back_mut()?;
+        let end = gap.1;
+        let start = gap.0.max(end.saturating_sub(ticks));
+        gap.1 = start;
+        if gap.0 == start {
+            self.gaps.pop_back();
+        }
+        Some((start, end))
+    }
+}
+
+/// The runs by start. Each job takes the latest ticks of its window that are still free. The jobs before it lie inside its window, so it is enough
+/// to know what is free in the window of the last one.
+fn place(jobs: &[Job], kept: &[bool; MAX_TASKS]) -> Vec<Run> {
+    let mut runs = Vec::with_capacity(2 * jobs.len());
+    let first = jobs[0].release;
+    let mut free = Free { window: (first, first), gaps: VecDeque::with_capacity(jobs.len() + 1) };
+    for (job, &kept) in jobs.iter().zip(kept) {
+        free.widen(job.release, job.deadline);
+        let mut work = job.mandatory + if kept { job.optional } else { 0 };
+        while work > 0 {
+            let Some((start, end)) = free.take_latest(work) else { break };
+            runs.push(Run { start, end, task: job.position as u32 });
+            work -= end - start;
+        }
+    }
+    runs.sort_unstable_by_key(|run| run.start);
+    runs
+}
+
+/// Planning: marks by position, runs by start.
+pub fn plan(file: &[u8], marks: &mut [u8], starts: &mut [u32], ends: &mut [u32], tasks: &mut [u32]) -> Result<Plan, Refusal> {
+    let table = read(file)?;
+    let (jobs, n) = nest_order(&table);
+    let jobs = &jobs[..n];
+    let mut mandatory = 0;
+    for job in jobs {
+        mandatory += job.mandatory;
+        if mandatory > job.deadline - job.release {
+            return refuse(8, job.position);
+        }
+    }
+    let most_runs = 2 * n - 1;
+    if marks.len() < n || starts.len() < most_runs || ends.len() < most_runs || tasks.len() < most_runs {
+        return refuse(9, 0);
+    }
+    let kept = choose(jobs);
+    let runs = place(jobs, &kept);
+    let mut plan = Plan { kept: 0, discarded: 0, runs: runs.len() };
+    for (job, &kept) in jobs.iter().zip(&kept) {
+        marks[job.position] = u8::from(kept);
+        if job.optional > 0 {
+            plan.kept += u32::from(kept);
+            plan.discarded += u32::from(!kept);
+        }
+    }
+    for (((run, start), end), task) in runs.iter().zip(starts).zip(ends).zip(tasks) {
+        (*start, *end, *task) = (run.start, run.end, run.task);
+    }
+    Ok(plan)
+}
+
+// ---- judging and the busy count
+
+/// Refusal 13.
+fn check_columns(starts: &[u32], ends: &[u32], tasks: &[u32]) -> Result<(), Refusal> {
+    if starts.len() > MAX_RUNS || ends.len() != starts.len() || tasks.len() != starts.len() {
+        return refuse(13, 0);
+    }
+    Ok(())
+}
+
+/// The runs follow one another in time, none is empty, each is inside the window of its task, and each task's runs total its work.
+fn is_running(table: &Table, marks: &[u8], starts: &[u32], ends: &[u32], tasks: &[u32]) -> bool {
+    let mut windows = [(0, 0); MAX_TASKS];
+    let mut missing = [0; MAX_TASKS];
+    for (k, (task, &mark)) in table.tasks().iter().zip(marks).enumerate() {
+        windows[k] = (release_tick(task.release, table.p, table.q), deadline_tick(task.deadline, table.p, table.q));
+        missing[k] = task.mandatory + u32::from(mark) * task.optional;
+    }
+    let n = table.count as usize;
+    let mut last_end = 0;
+    for ((&start, &end), &task) in starts.iter().zip(ends).zip(tasks) {
+        let task = task as usize;
+        if start >= end || start < last_end || task >= n {
+            return false;
+        }
+        let (release, deadline) = windows[task];
+        if start < release || end > deadline || end - start > missing[task] {
+            return false;
+        }
+        missing[task] -= end - start;
+        last_end = end;
+    }
+    missing[..n].iter().all(|&ticks| ticks == 0)
+}
+
+/// Judging.
+pub fn judge(file: &[u8], marks: &[u8], starts: &[u32], ends: &[u32], tasks: &[u32]) -> Result<Verdict, Refusal> {
+    let table = read(file)?;
+    let n = table.count as usize;
+    if marks.len() != n {
+        return refuse(11, n);
+    }
+    if let Some(k) = marks.iter().position(|&mark| mark > 1) {
+        return refuse(11, k);
+    }
+    check_columns(starts, ends, tasks)?;
+    if !is_running(&table, marks, starts, ends, tasks) {
+        return Ok(Verdict { yes: false, kept: 0, discarded: 0 });
+    }
+    let (mut kept, mut discarded) = (0, 0);
+    for (task, &mark) in table.tasks().iter().zip(marks) {
+        if task.optional > 0 {
+            kept += u32::from(mark == 1);
+            discarded += u32::from(mark == 0);
+        }
+    }
+    Ok(Verdict { yes: true, kept, discarded })
+}
+
+/// The busy count of the interval from a to b.
+pub fn busy(starts: &[u32], ends: &[u32], tasks: &[u32], a: u32, b: u32) -> Result<u64, Refusal> {
+    check_columns(starts, ends, tasks)?;
+    // Where a is not below b, or a start not below its end, the lesser end is not above the greater start: the shared ticks are 0.
+    let shared = starts.iter().zip(ends).map(|(&start, &end)| u64::from(end.min(b).saturating_sub(start.max(a))));
+    Ok(shared.sum())
+}

@@ -1,0 +1,93 @@
+//! How much stack a call of the proved library uses: it is run on an area of its own, painted beforehand, and the lowest byte that changed is found.
+//! x86-64 only, as the archive is.
+
+use crate::ffi::{self, BusyCount, Judged, Planned, TableRead, Written};
+use crate::reference::Table;
+use std::arch::asm;
+use std::mem::MaybeUninit;
+
+const WORDS: usize = 64 * 1024;
+const PAINT: u64 = 0xa5a5_5a5a_c3c3_3c3c;
+
+/// The stack use of one call.
+#[derive(Clone, Copy, Debug)]
+pub struct Use {
+    /// What the call itself uses: its return address and everything below.
+    pub own: usize,
+    /// What its caller puts on the stack for it: arguments that are passed in memory.
+    pub arguments: usize,
+}
+
+/// Calls a function of the C interface with these registers and these words on the stack.
+///
+/// # Safety
+/// The words are the arguments of the function, as the calling convention has them.
+unsafe fn call(function: usize, registers: [usize; 6], on_stack: &[u64]) -> Use {
+    let mut area = vec![PAINT; WORDS];
+    // Where the arguments begin, the stack pointer is a multiple of 16.
+    let base = area.as_ptr() as usize;
+    let mut top = WORDS - on_stack.len() - 16;
+    top -= (base / 8 + top) % 2;
+    area[top..top + on_stack.len()].copy_from_slice(on_stack);
+    let stack = area.as_mut_ptr().add(top);
+    asm!(
+        "mov r12, rsp",
+        "mov rsp, {stack}",
+        "call {function}",
+        "mov rsp, r12",
+        stack = in(reg) stack,
+        function = in(reg) function,
+        inout("rdi") registers[0] => _,
+        inout("rsi") registers[1] => _,
+        inout("rdx") registers[2] => _,
+        inout("rcx") registers[3] => _,
+        inout("r8") registers[4] => _,
+        inout("r9") registers[5] => _,
+        out("r12") _,
+        clobber_abi("C"),
+    );
+    let lowest = area.iter().position(|&word| word != PAINT).unwrap_or(top);
+    Use { own: 8 * (top - lowest), arguments: 8 * on_stack.len() }
+}
+
+pub fn read(file: &[u8]) -> Use {
+    let mut reply = MaybeUninit::<TableRead>::uninit();
+    let registers = [reply.as_mut_ptr() as usize, file.as_ptr() as usize, file.len(), 0, 0, 0];
+    unsafe { call(ffi::addresses().read, registers, &[]) }
+}
+
+pub fn write(table: &Table, out: &mut [u8]) -> Use {
+    let mut reply = MaybeUninit::<Written>::uninit();
+    let mut words = [0u64; size_of::<Table>().div_ceil(8)];
+    unsafe { std::ptr::copy_nonoverlapping((table as *const Table).cast::<u8>(), words.as_mut_ptr().cast::<u8>(), size_of::<Table>()) };
+    let registers = [reply.as_mut_ptr() as usize, out.as_mut_ptr() as usize, out.len(), 0, 0, 0];
+    unsafe { call(ffi::addresses().write, registers, &words) }
+}
+
+pub fn shift(file: &[u8], frames: i32, out: &mut [u8]) -> Use {
+    let mut reply = MaybeUninit::<Written>::uninit();
+    let registers = [reply.as_mut_ptr() as usize, file.as_ptr() as usize, file.len(), frames as u32 as usize, out.as_mut_ptr() as usize, out.len()];
+    unsafe { call(ffi::addresses().shift, registers, &[]) }
+}
+
+pub fn plan(file: &[u8], marks: &mut [u8], starts: &mut [u32], ends: &mut [u32], tasks: &mut [u32]) -> Use {
+    let mut reply = MaybeUninit::<Planned>::uninit();
+    let registers =
+        [reply.as_mut_ptr() as usize, file.as_ptr() as usize, file.len(), marks.as_mut_ptr() as usize, marks.len(), starts.as_mut_ptr() as usize];
+    let words = [starts.len() as u64, ends.as_mut_ptr() as u64, ends.len() as u64, tasks.as_mut_ptr() as u64, tasks.len() as u64];
+    unsafe { call(ffi::addresses().plan, registers, &words) }
+}
+
+pub fn judge(file: &[u8], marks: &[u8], starts: &[u32], ends: &[u32], tasks: &[u32]) -> Use {
+    let mut reply = MaybeUninit::<Judged>::uninit();
+    let registers = [reply.as_mut_ptr() as usize, file.as_ptr() as usize, file.len(), marks.as_ptr() as usize, marks.len(), starts.as_ptr() as usize];
+    let words = [starts.len() as u64, ends.as_ptr() as u64, ends.len() as u64, tasks.as_ptr() as u64, tasks.len() as u64];
+    unsafe { call(ffi::addresses().judge, registers, &words) }
+}
+
+pub fn busy(starts: &[u32], ends: &[u32], tasks: &[u32], a: u32, b: u32) -> Use {
+    let mut reply = MaybeUninit::<BusyCount>::uninit();
+    let registers =
+        [reply.as_mut_ptr() as usize, starts.as_ptr() as usize, starts.len(), ends.as_ptr() as usize, ends.len(), tasks.as_ptr() as usize];
+    unsafe { call(ffi::addresses().busy, registers, &[tasks.len() as u64, u64::from(a), u64::from(b)]) }
+}

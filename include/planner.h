@@ -1,0 +1,222 @@
+/*
+ * The flight planner of radiosonde ground stations: the C interface of the static library that `rt staticlib exports` writes
+ * (target/staticlib/libexports.a, x86-64, System V calling convention). The library needs memcpy and memset from the C library, and nothing else.
+ *
+ * Each call takes bytes and lists of every content and length, does its own checking, and returns. A call that refuses replies a number above 0 and
+ * a place, and leaves every lent list as it was. Parts of a reply that are not named are 0. A lent list beyond what was written keeps its content.
+ *
+ * A list passes as a pointer and its length in elements.
+ * - The pointer is never null and is aligned for its elements, also where the length is 0.
+ * - A list that is lent for writing (no const) overlaps no other list of the same call. Lists that are only read may overlap or be the same.
+ *
+ * No call uses a heap, keeps anything between calls, or writes anything but the lists that it was lent and its reply. Calls on different lists may
+ * run at the same time on different threads. A call needs less than 32 KB of stack.
+ *
+ * Ticks are milliseconds. A frame lasts p/q ticks. A window holds the ticks from the least tick not before release * p / q, included, to the
+ * greatest tick not after deadline * p / q, excluded.
+ *
+ * Refusals
+ *
+ *   number  cause                                                            place
+ *   1       fewer than 4 bytes, or fewer than the count needs                the file's length
+ *   2       task count 0 or above 64                                         0
+ *   3       more bytes than the count needs                                  the length needed
+ *   4       a padding bit is set                                             0
+ *   5       p or q is 0 or above 4095, or p is below q                       0
+ *   6       a release frame is not below the deadline frame                  the lowest such position
+ *   7       two windows are not nested                                       the lowest position not nested with some earlier one
+ *   8       no running completes all mandatory parts                         the first task in nest order where the mandatory ticks up to and
+ *                                                                            with it exceed its window
+ *   9       a lent list is too short                                         0
+ *   10      a moved frame is below 0 or above 131071                         the lowest such position
+ *   11      the keep list is not n long, or a mark is above 1                n if the length is wrong, else the first bad mark
+ *   12      a field to be written is wider than its bits                     the lowest such position
+ *   13      more than 4096 runs, or run columns of unequal length            0
+ *
+ * The first cause that holds, in the order that stands at each call, is the one replied. Nest order puts the window with fewer frames first, and the
+ * lower position first among equals.
+ */
+#ifndef PLANNER_H
+#define PLANNER_H
+
+#include <stdbool.h>
+#include <stddef.h>
+#include <stdint.h>
+
+#ifdef __cplusplus
+extern "C" {
+#endif
+
+#define PLANNER_MAX_TASKS 64       /* tasks of a table */
+#define PLANNER_MAX_RUNS 4096      /* runs of a list that is judged or counted */
+#define PLANNER_LAST_FRAME 131071  /* the last frame that a table can name */
+#define PLANNER_MAX_PERIOD 4095    /* p and q */
+#define PLANNER_MAX_TICKS 16383    /* a mandatory or an optional part */
+#define PLANNER_MAX_FILE 500       /* bytes of a file of 64 tasks */
+#define PLANNER_MAX_PLAN_RUNS 127  /* runs of a plan of 64 tasks */
+
+/* The bytes of a file of n tasks. */
+#define PLANNER_FILE_LENGTH(n) ((31 + 62 * (size_t)(n) + 7) / 8)
+
+/* The most runs that a plan of n tasks has, n at least 1. */
+#define PLANNER_PLAN_RUNS(n) (2 * (size_t)(n) - 1)
+
+/* The numbers of the refusals. */
+enum {
+    PLANNER_ACCEPTED = 0,
+    PLANNER_SHORT_FILE = 1,
+    PLANNER_BAD_COUNT = 2,
+    PLANNER_LONG_FILE = 3,
+    PLANNER_PADDING_SET = 4,
+    PLANNER_BAD_PERIOD = 5,
+    PLANNER_BAD_WINDOW = 6,
+    PLANNER_NOT_NESTED = 7,
+    PLANNER_NO_RUNNING = 8,
+    PLANNER_SHORT_LIST = 9,
+    PLANNER_FRAME_OUTSIDE = 10,
+    PLANNER_BAD_MARKS = 11,
+    PLANNER_WIDE_FIELD = 12,
+    PLANNER_BAD_RUNS = 13
+};
+
+/* A task: its window in frames, its two lengths in ticks. */
+struct planner_task {
+    uint32_t release;   /* 0 to 131071, below the deadline */
+    uint32_t deadline;  /* 0 to 131071 */
+    uint32_t mandatory; /* 0 to 16383 */
+    uint32_t optional;  /* 0 to 16383; run whole or not at all */
+};
+
+/* A table. Places beyond the count are 0 in a table that was read, and disregarded in one that is written. */
+struct planner_table {
+    uint32_t count; /* 1 to 64 */
+    uint32_t p;     /* 1 to 4095, at least q */
+    uint32_t q;     /* 1 to 4095 */
+    struct planner_task tasks[PLANNER_MAX_TASKS];
+};
+
+/* The reply of planner_read. */
+struct planner_table_read {
+    uint32_t number;
+    size_t place;
+    struct planner_table table; /* 0 throughout on a refusal */
+};
+
+/* The reply of planner_write and planner_shift. */
+struct planner_written {
+    uint32_t number;
+    size_t place;
+    size_t bytes; /* written at the head of the list */
+};
+
+/* The reply of planner_plan. Optional parts of 0 ticks are in neither count. */
+struct planner_planned {
+    uint32_t number;
+    size_t place;
+    uint32_t kept;      /* optional parts that are run */
+    uint32_t discarded; /* optional parts that are not; no running discards fewer */
+    size_t runs;        /* written at the head of the three columns */
+};
+
+/* The reply of planner_judge. The counts come with a yes; with a no both are 0. */
+struct planner_judged {
+    uint32_t number;
+    size_t place;
+    bool yes;
+    uint32_t kept;
+    uint32_t discarded;
+};
+
+/* The reply of planner_busy. */
+struct planner_busy_count {
+    uint32_t number;
+    size_t place;
+    uint64_t ticks;
+};
+
+/*
+ * Reading: the table of a file. Fields are bit-packed, the most significant bit first: task count 7 bits, p 12, q 12; then for each task release 17,
+ * deadline 17, mandatory 14, optional 14; the rest of the last byte is 0.
+ * Refusals: 1 (under 4 bytes), 2, 1, 3, 4, 5, 6, 7.
+ */
+struct planner_table_read planner_read(const uint8_t *file, size_t file_length);
+
+/*
+ * Writing: the file of a table, into a list of at least PLANNER_FILE_LENGTH(count) bytes.
+ * Refusals: 2, 5, 12, 6, 7, 9.
+ */
+struct planner_written planner_write(struct planner_table table, uint8_t *out, size_t out_length);
+
+/*
+ * Moving: the file with both frames of every task changed by a signed number, into a list of at least file_length bytes.
+ * Refusals: those of reading, 10, 9.
+ */
+struct planner_written planner_shift(const uint8_t *file, size_t file_length, int32_t frames, uint8_t *out, size_t out_length);
+
+/*
+ * Planning a file of n tasks, into lists of at least n marks and 2n - 1 starts, ends and tasks (64 and 127 are always enough). A mark is 1 where the
+ * optional part of the task at that position is kept, and 0 where it is discarded; it is 1 for a part of 0 ticks. Run i of the plan gives the ticks
+ * from starts[i], included, to ends[i], excluded, to the task tasks[i]; runs are listed by start.
+ * Refusals: those of reading, 8, 9.
+ */
+struct planner_planned planner_plan(const uint8_t *file, size_t file_length,
+                                    uint8_t *marks, size_t marks_length,
+                                    uint32_t *starts, size_t starts_length,
+                                    uint32_t *ends, size_t ends_length,
+                                    uint32_t *tasks, size_t tasks_length);
+
+/*
+ * Judging a keep list of n marks and a run list, whoever made them. Yes means: every start is below its end, no run starts before the one listed
+ * before it ends, every task number is in the table, every run is inside its window, and each task's runs total its work exactly (its mandatory
+ * ticks, plus its optional ticks where its mark is 1).
+ * Refusals: those of reading, 11, 13.
+ */
+struct planner_judged planner_judge(const uint8_t *file, size_t file_length,
+                                    const uint8_t *marks, size_t marks_length,
+                                    const uint32_t *starts, size_t starts_length,
+                                    const uint32_t *ends, size_t ends_length,
+                                    const uint32_t *tasks, size_t tasks_length);
+
+/*
+ * The busy count: over all runs, the ticks that the run shares with the interval from a, included, to b, excluded. It is 0 where a is not below b; a
+ * run with start not below end adds 0. It means busy ticks only for runs that don't overlap; for others it is still this sum.
+ * Refusals: 13.
+ */
+struct planner_busy_count planner_busy(const uint32_t *starts, size_t starts_length,
+                                       const uint32_t *ends, size_t ends_length,
+                                       const uint32_t *tasks, size_t tasks_length,
+                                       uint32_t a, uint32_t b);
+
+/* What the library was compiled with. */
+#ifdef __cplusplus
+#define PLANNER_ASSERT(condition) static_assert(condition, #condition)
+#else
+#define PLANNER_ASSERT(condition) _Static_assert(condition, #condition)
+#endif
+PLANNER_ASSERT(sizeof(size_t) == 8);
+PLANNER_ASSERT(sizeof(bool) == 1);
+PLANNER_ASSERT(sizeof(struct planner_task) == 16);
+PLANNER_ASSERT(sizeof(struct planner_table) == 1036);
+PLANNER_ASSERT(offsetof(struct planner_table, tasks) == 12);
+PLANNER_ASSERT(sizeof(struct planner_table_read) == 1056);
+PLANNER_ASSERT(offsetof(struct planner_table_read, place) == 8);
+PLANNER_ASSERT(offsetof(struct planner_table_read, table) == 16);
+PLANNER_ASSERT(sizeof(struct planner_written) == 24);
+PLANNER_ASSERT(offsetof(struct planner_written, bytes) == 16);
+PLANNER_ASSERT(sizeof(struct planner_planned) == 32);
+PLANNER_ASSERT(offsetof(struct planner_planned, kept) == 16);
+PLANNER_ASSERT(offsetof(struct planner_planned, discarded) == 20);
+PLANNER_ASSERT(offsetof(struct planner_planned, runs) == 24);
+PLANNER_ASSERT(sizeof(struct planner_judged) == 32);
+PLANNER_ASSERT(offsetof(struct planner_judged, yes) == 16);
+PLANNER_ASSERT(offsetof(struct planner_judged, kept) == 20);
+PLANNER_ASSERT(offsetof(struct planner_judged, discarded) == 24);
+PLANNER_ASSERT(sizeof(struct planner_busy_count) == 24);
+PLANNER_ASSERT(offsetof(struct planner_busy_count, ticks) == 16);
+#undef PLANNER_ASSERT
+
+#ifdef __cplusplus
+}
+#endif
+
+#endif
