@@ -11,7 +11,7 @@ use lib.Seq.{take-all}
 use borrow.Author.Tests.{eqb-true, eqb-false, ne-eqb, le-ltb}
 use Rattle.base.specs.Tests.{pick}
 use Rattle.base.specs.Lent.{writtenFront}
-use Rattle.base.proofs.TestLaws.{cases}
+use Rattle.base.proofs.TestLaws.{cases, pick-cases}
 use Rattle.bits.specs.Bits.{field, bytesFor}
 use Rattle.table.specs.declared.Table.{Table}
 use Rattle.table.specs.Layout.{taskStart, fileLength}
@@ -28,7 +28,7 @@ use Rattle.planner.proofs.ColumnLaws.{columns-runs}
 use Rattle.planner.proofs.PlanLaws.{Plannable, marks-length, plan-few}
 use Rattle.planner.proofs.ReplyLaws.{Lists, Made, Replied, file-refused, plan-made, made, runs-are, marks-taken, starts-taken, ends-taken, tasks-taken}
 use Rattle.report.specs.Putting.{Put}
-use Rattle.report.specs.Printing.{space, newline, planWord, dropWord, runWord, refusedWord, decimal, fields, line, dropsFrom, dropLines, runLine, runLines, planLines, planText, refusalText, longReply, printed, maxText}
+use Rattle.report.specs.Printing.{space, newline, planWord, dropWord, runWord, refusedWord, decimal, fields, line, dropsFrom, dropLines, runLine, runLines, planLines, planText, refusalText, longReply, printed, maxText, printLength, printedOver}
 use Rattle.report.proofs.PutLaws.{put-front}
 use Rattle.report.proofs.PrefixLaws.{long-refused, read-prefix}
 use Rattle.report.proofs.DecimalLaws.{decimal-length}
@@ -143,8 +143,14 @@ count-is file at count z e = e ∙ (rw z (sym (tableIn-count file)))
 
 -- The clauses of print where the list is long enough, from the text that was put.
 pub print-clauses : (file out : List ℕ) (text : List ℕ) (next : ℕ) (new : List ℕ) → maxText ≤ length out → text ≡ printed file → Put text 0 out next new
-    → (next ≡ pick (ltb (length out) maxText) 0 (length (printed file))) × (new ≡ pick (ltb (length out) maxText) out (writtenFront (printed file) out))
+    → (next ≡ printLength file (length out)) × (new ≡ printedOver file out)
+unfolding printLength printedOver
 print-clauses file out text next new h e p = rw (le-ltb (length out) maxText h, ← e) (put-front text out next new p)
+
+-- never more bytes than the longest text
+pub print-most : (file : List ℕ) (room next : ℕ) → next ≡ printLength file room → next ≤ maxText
+unfolding printLength
+print-most file room next e = rw e (pick-cases (λ n. n ≤ maxText) (ltb room maxText) (λ q. omega arith) (λ q. printed-length file))
 
 -- what is printed of a file that reading refuses
 printed-unread : (file : List ℕ) → isAccepted (readAnswer file) ≡ false → refusalText (numberOf (readAnswer file)) (placeOf (readAnswer file)) ≡ printed file

@@ -2,8 +2,10 @@
 use Prim.Native.Nat.{ℕ, zero, suc, _+_, _-_, _*_, _/_, _%_}
 use mathlib.Core.List.{List, [], _∷_, _++_}
 use lib.Dec.{ltb, eqb}
+use lib.ListN.{length}
 use Rattle.base.specs.Limits.{maxTasks}
 use Rattle.base.specs.Tests.{pick}
+use Rattle.base.specs.Lent.{writtenFront}
 use Rattle.table.specs.declared.Table.{Table}
 use Rattle.table.specs.Reading.{tableIn}
 use Rattle.schedule.specs.declared.Run.{Run}
@@ -92,3 +94,11 @@ printed file =
 -- no text is longer: at most 1 + 64 + 127 lines, and a line has at most 7 bytes of a word, 3 numbers of 21 bytes with their spaces, and a newline
 abbrev pub maxText : ℕ
 maxText = 13_632
+
+-- how many bytes are printed of a file into a list of `room` places: none into one that is shorter than the longest text
+unfoldable pub printLength : List ℕ → ℕ → ℕ
+printLength file room = pick (ltb room maxText) 0 (length (printed file))
+
+-- what a lent list holds after that
+unfoldable pub printedOver : List ℕ → List ℕ → List ℕ
+printedOver file out = pick (ltb (length out) maxText) out (writtenFront (printed file) out)

@@ -2,13 +2,10 @@
 ghost use mathlib.Core.Path.{_≡_};
 ghost use mathlib.Core.List.{[], _∷_};
 ghost use Prim.Native.Nat.{_+_, _≤_, _<_};
-ghost use lib.Dec.{ltb};
 ghost use lib.ListN.{length};
-ghost use Rattle.base.specs.Tests.{pick};
-ghost use Rattle.base.specs.Lent.{writtenFront};
 ghost use Rattle.schedule.specs.Runs.{runsOf};
 ghost use Rattle.report.specs.Putting.{Put};
-ghost use Rattle.report.specs.Printing.{decimal, fields, line, dropWord, dropLines, runWord, runLines, planLines, refusalText, printed, maxText};
+ghost use Rattle.report.specs.Printing.{decimal, fields, line, dropWord, dropLines, runWord, runLines, planLines, refusalText, printLength, printedOver};
 use base::MAX_TASKS;
 use bits::Cursor;
 use table::COUNT_WIDTH;
@@ -168,8 +165,8 @@ fn put_refusal(out: &mut [u8], number: u32, place: usize) -> usize
 // Plans a file and prints its plan or its refusal at the front of a lent list; the number of bytes printed. A list shorter than MAX_TEXT is left
 // as it is, and the reply is 0.
 pub fn print(file: &[u8], out: &mut [u8]) -> usize
-    ensures length_is { λ r. ⌜ r ≡ pick (ltb (length (now (out .entry))) maxText) 0 (length (printed (now (file .entry)))) ⌝ }
-    ensures content { λ r. ⌜ now (out .exit) ≡ pick (ltb (length (now (out .entry))) maxText) (now (out .entry)) (writtenFront (printed (now (file .entry))) (now (out .entry))) ⌝ }
+    ensures length_is { λ r. ⌜ r ≡ printLength (now (file .entry)) (length (now (out .entry))) ⌝ }
+    ensures content { λ r. ⌜ now (out .exit) ≡ printedOver (now (file .entry)) (now (out .entry)) ⌝ }
 {
     if out.len() < MAX_TEXT {
         return 0;

@@ -7,7 +7,7 @@ use lib.Seq.{length-take-le}
 use borrow.Author.Tests.{lt-ltb}
 use Rattle.table.specs.Reading.{tableIn}
 use Rattle.planner.proofs.ReplyLaws.{Lists, Replied}
-use Rattle.report.specs.Printing.{longReply, printed, maxText}
+use Rattle.report.specs.Printing.{longReply, printed, maxText, printLength, printedOver}
 use Rattle.report.proofs.TextLaws.{refusal-length, printed-length, printed-refused, file-bits, count-fits, runs-fit, text-is, count-is, print-clauses}
 use borrow.Author.Needs.{needs}
 use Rattle.report.proofs.print.Statement.{statement}
@@ -40,6 +40,7 @@ few : (c : tie.After-take) → c .before .before .before .before .before .before
 few c = runs-fit _ _ _ _ (replied (c .before .before .before .before .before .before .before .before)) (c .before .before .if2 .left)
 
 returns : tie.Need-returns
+unfolding printLength printedOver
 returns c = rw (lt-ltb (length (c .before .before .before .args .out .now)) maxText (c .if1 .taken)) (refl, refl)
 
 slice-aggregate-plan : tie.Need-slice-aggregate-plan
