@@ -1,5 +1,4 @@
 pub mod PutLaws
 pub mod DecimalLaws
 pub mod LineLaws
-pub mod PrefixLaws
 pub mod TextLaws

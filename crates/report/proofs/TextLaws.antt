@@ -1,8 +1,8 @@
 -- Laws of the printed text: its parts, its greatest length, and what the plan call leaves to print.
-use Prim.Native.Nat.{ℕ, suc, _+_, _-_, _*_, _≤_, _<_}
+use Prim.Native.Nat.{ℕ, suc, _+_, _*_, _≤_, _<_}
 use mathlib.Core.Path.{_≡_, refl, sym, ap, ap₂, _∙_}
-use mathlib.Core.Bool.{true, false}
-use mathlib.Core.List.{List, [], _∷_, _++_}
+use mathlib.Core.Bool.{false}
+use mathlib.Core.List.{List, [], _∷_}
 use native.Mathlib.Decide.{decLt}
 use native.Mathlib.Omega.{arith}
 use lib.Dec.{ltb, eqb}
@@ -13,12 +13,12 @@ use Rattle.base.specs.Tests.{pick}
 use Rattle.base.specs.Lent.{writtenFront}
 use Rattle.base.proofs.TestLaws.{cases, pick-cases}
 use Rattle.bits.specs.Bits.{field, bytesFor}
-use Rattle.table.specs.declared.Table.{Table}
 use Rattle.table.specs.Layout.{taskStart, fileLength}
 use Rattle.table.specs.Answers.{numberOf, placeOf, isAccepted}
 use Rattle.table.specs.Reading.{countIn, tableIn, readAnswer}
 use Rattle.table.proofs.AnswerLaws.{refused-number}
 use Rattle.table.proofs.FileLaws.{legal-count}
+use Rattle.table.proofs.PrefixLaws.{long-refused, read-prefix}
 use Rattle.table.proofs.RoundTrip.{tableIn-count, read-length}
 use Rattle.schedule.specs.declared.Run.{Run}
 use Rattle.schedule.specs.Runs.{runsOf}
@@ -26,11 +26,10 @@ use Rattle.planner.specs.declared.Planned.{Planned}
 use Rattle.planner.specs.Planning.{planMarks, planRuns, planDeclined, planOf, planReply}
 use Rattle.planner.proofs.ColumnLaws.{columns-runs}
 use Rattle.planner.proofs.PlanLaws.{Plannable, marks-length, plan-few}
-use Rattle.planner.proofs.ReplyLaws.{Lists, Made, Replied, file-refused, plan-made, made, runs-are, marks-taken, starts-taken, ends-taken, tasks-taken}
+use Rattle.planner.proofs.ReplyLaws.{Lists, Replied, file-refused, plan-made, made, runs-are, marks-taken, starts-taken, ends-taken, tasks-taken}
 use Rattle.report.specs.Putting.{Put}
-use Rattle.report.specs.Printing.{space, newline, planWord, dropWord, runWord, refusedWord, decimal, fields, line, dropsFrom, dropLines, runLine, runLines, planLines, planText, refusalText, longReply, printed, maxText, printLength, printedOver}
+use Rattle.report.specs.Printing.{space, planWord, dropWord, runWord, refusedWord, decimalWithin, decimal, fields, line, dropsFrom, dropLines, runLine, runLines, planLines, planText, refusalText, longReply, printed, maxText, printLength, printedOver}
 use Rattle.report.proofs.PutLaws.{put-front}
-use Rattle.report.proofs.PrefixLaws.{long-refused, read-prefix}
 use Rattle.report.proofs.DecimalLaws.{decimal-length}
 use Rattle.report.proofs.LineLaws.{line-length, plan-length}
 
@@ -170,3 +169,18 @@ printed-prefix file =
           ∙ (ap₂ refusalText (ap numberOf same) (ap placeOf same) ∙ printed-unread file bad)
       | no h ↦ ap printed (take-all 501 file (omega arith))
     ]
+
+-- The text of document 01's example, from its counts, marks and runs.
+abbrev run : ℕ → ℕ → ℕ → Run
+run start end task = record { start = start; end = end; task = task }
+
+pub example-text : planLines 3 2 1 (1 ∷ 0 ∷ 1 ∷ []) (run 2 4 0 ∷ run 4 6 2 ∷ run 6 7 0 ∷ run 7 8 1 ∷ run 8 10 0 ∷ [])
+    ≡ 80 ∷ 76 ∷ 65 ∷ 78 ∷ 32 ∷ 51 ∷ 32 ∷ 50 ∷ 32 ∷ 49 ∷ 10
+    ∷ 68 ∷ 82 ∷ 79 ∷ 80 ∷ 32 ∷ 49 ∷ 10
+    ∷ 82 ∷ 85 ∷ 78 ∷ 32 ∷ 50 ∷ 32 ∷ 52 ∷ 32 ∷ 48 ∷ 10
+    ∷ 82 ∷ 85 ∷ 78 ∷ 32 ∷ 52 ∷ 32 ∷ 54 ∷ 32 ∷ 50 ∷ 10
+    ∷ 82 ∷ 85 ∷ 78 ∷ 32 ∷ 54 ∷ 32 ∷ 55 ∷ 32 ∷ 48 ∷ 10
+    ∷ 82 ∷ 85 ∷ 78 ∷ 32 ∷ 55 ∷ 32 ∷ 56 ∷ 32 ∷ 49 ∷ 10
+    ∷ 82 ∷ 85 ∷ 78 ∷ 32 ∷ 56 ∷ 32 ∷ 49 ∷ 48 ∷ 32 ∷ 48 ∷ 10 ∷ []
+unfolding planLines line fields decimal decimalWithin dropLines dropsFrom runLines runLine
+example-text = refl

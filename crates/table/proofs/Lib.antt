@@ -3,3 +3,4 @@ pub mod WindowLaws
 pub mod AnswerLaws
 pub mod FileLaws
 pub mod RoundTrip
+pub mod PrefixLaws

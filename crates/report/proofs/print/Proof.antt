@@ -1,15 +1,15 @@
 -- `report::print` meets its contract: the lists lent for planning are long enough for every table, and what they hold after a reply of 0 is printed.
-use Prim.Native.Nat.{ℕ, _≤_, _<_}
+use Prim.Native.Nat.{_≤_}
 use mathlib.Core.Path.{_≡_, refl, sym, _∙_}
 use native.Mathlib.Omega.{arith}
 use lib.ListN.{length, replicate}
 use lib.Seq.{length-take-le}
 use borrow.Author.Tests.{lt-ltb}
+use borrow.Author.Needs.{needs}
 use Rattle.table.specs.Reading.{tableIn}
 use Rattle.planner.proofs.ReplyLaws.{Lists, Replied}
 use Rattle.report.specs.Printing.{longReply, printed, maxText, printLength, printedOver}
 use Rattle.report.proofs.TextLaws.{refusal-length, printed-length, printed-refused, file-bits, count-fits, runs-fit, text-is, count-is, print-clauses}
-use borrow.Author.Needs.{needs}
 use Rattle.report.proofs.print.Statement.{statement}
 use Rattle.report.proofs.print.Tie as tie
 

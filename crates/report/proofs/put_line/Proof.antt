@@ -1,9 +1,7 @@
 -- `report::put_line` meets its contract: each part stands behind the one before it.
 use native.Mathlib.Omega.{arith}
 use borrow.Author.Needs.{needs}
-use mathlib.Core.List.{_++_, _∷_, []}
-use lib.ListN.{length, length-append}
-use Rattle.report.specs.Printing.{newline, fields, line}
+use Rattle.report.specs.Printing.{line}
 use Rattle.report.proofs.PutLaws.{put-three}
 use Rattle.report.proofs.LineLaws.{line-length}
 use Rattle.report.proofs.put_line.Statement.{statement}

@@ -1,10 +1,10 @@
 -- `report::put_plan` meets its contract: each part stands behind the one before it.
 use native.Mathlib.Omega.{arith}
+use borrow.Author.Needs.{needs}
 use Rattle.schedule.specs.Runs.{runsOf}
 use Rattle.report.specs.Printing.{planLines}
 use Rattle.report.proofs.PutLaws.{put-three}
 use Rattle.report.proofs.LineLaws.{plan-length}
-use borrow.Author.Needs.{needs}
 use Rattle.report.proofs.put_plan.Statement.{statement}
 use Rattle.report.proofs.put_plan.Tie as tie
 

@@ -1,5 +1,5 @@
 -- `report::put_runs` meets its contract. The loop's invariant: what is left is the RUN lines of the runs from place i on.
-use Prim.Native.Nat.{ℕ, _+_, _-_, _≤_, _<_}
+use Prim.Native.Nat.{ℕ, _+_, _-_, _≤_}
 use mathlib.Core.List.{List, _++_}
 use native.Mathlib.Omega.{arith}
 use lib.ListN.{length}
