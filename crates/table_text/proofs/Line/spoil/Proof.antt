@@ -1,0 +1,12 @@
+-- `table_text::Line::spoil` meets its contract.
+use mathlib.Core.Path.{refl}
+use Rattle.table_text.specs.TableText.{spoiled}
+use Rattle.table_text.proofs.Line.spoil.Statement.{statement}
+use Rattle.table_text.proofs.Line.spoil.Tie as tie
+
+returns : tie.Need-returns
+unfolding spoiled
+returns c = refl
+
+pub spoil-spec : {M : Type 1} → statement M
+spoil-spec = tie.close (tie.spec returns)

@@ -1,0 +1,19 @@
+-- `table_text::Scan::new` meets its contract.
+use mathlib.Core.Path.{refl}
+use borrow.Author.Needs.{needs}
+use Rattle.table_text.specs.TableText.{start}
+use Rattle.table_text.proofs.Scan.new.Statement.{statement}
+use Rattle.table_text.proofs.Scan.new.Tie as tie
+
+none-requires : tie.Need-none-requires
+none-requires c κs = search needs
+
+new-requires : tie.Need-new-requires
+new-requires c κs = search needs
+
+returns : tie.Need-returns
+unfolding start
+returns c = rw (c .before .none .ensures, c .new .ensures)
+
+pub new-spec : {M : Type 1} → statement M
+new-spec = tie.close (tie.spec none-requires new-requires returns)

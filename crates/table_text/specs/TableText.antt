@@ -1,0 +1,117 @@
+-- A table written by hand: from lines of text to a table value.
+-- Line 1 has three numbers: task count, p, q. Then comes one line for each task, with four: release frame, deadline frame, mandatory ticks,
+-- optional ticks. Numbers are decimal and at most 999,999,999; blanks stand between them, and may stand at either end of a line. A line ends
+-- with a newline, which the last line may lack. After the last task there may be blank lines.
+use Prim.Native.Nat.{ℕ, _+_, _-_, _*_}
+use mathlib.Core.Bool.{Bool, true, false, not}
+use mathlib.Core.List.{List, [], _∷_}
+use lib.Dec.{leb, ltb, eqb}
+use lib.ListN.{getD, set, replicate}
+use Rattle.base.specs.Limits.{maxTasks}
+use Rattle.base.specs.Tests.{pick, and, or}
+use Rattle.table.specs.declared.Task.{Task}
+use Rattle.table.specs.declared.Table.{Table}
+use Rattle.table.specs.Tables.{noTable}
+use Rattle.table_text.specs.declared.Line.{Line}
+use Rattle.table_text.specs.declared.Scan.{Scan}
+use Rattle.table_text.specs.declared.Parsed.{Parsed}
+
+-- the bytes that mean something: a newline; the blanks space, tab and carriage return; the digits 0 to 9
+abbrev pub newline : ℕ
+newline = 10
+
+unfoldable pub isBlank : ℕ → Bool
+isBlank byte = or (eqb byte 32) (or (eqb byte 9) (eqb byte 13))
+
+unfoldable pub isDigit : ℕ → Bool
+isDigit byte = and (leb 48 byte) (leb byte 57)
+
+-- a line of which nothing was read
+unfoldable pub noLine : Line
+noLine = record { bad = false; seen = 0; numbers = replicate 4 0; reading = false; value = 0 }
+
+-- the line has what no line may have
+unfoldable pub spoiled : Line → Line
+spoiled l = record { bad = true; seen = l .seen; numbers = l .numbers; reading = l .reading; value = l .value }
+
+-- a digit more of the number being read; a number above 999,999,999 spoils the line
+unfoldable pub withDigit : Line → ℕ → Line
+withDigit l digit =
+    pick (ltb 99_999_999 (l .value)) (spoiled l)
+    (record { bad = l .bad; seen = l .seen; numbers = l .numbers; reading = true; value = 10 * l .value + digit })
+
+-- the number being read, where there is one, is the line's next; a fifth spoils the line
+unfoldable pub withNumber : Line → Line
+withNumber l =
+    pick (l .reading)
+    (pick (ltb (l .seen) 4)
+    (record { bad = l .bad; seen = l .seen + 1; numbers = set (l .numbers) (l .seen) (l .value); reading = false; value = 0 })
+    (spoiled l))
+    l
+
+-- a byte more of the line, which is no newline: a digit, a blank, or another byte, which spoils the line
+unfoldable pub withByte : Line → ℕ → Line
+withByte l byte = pick (isDigit byte) (withDigit l (byte - 48)) (pick (isBlank byte) (withNumber l) (spoiled l))
+
+-- how many numbers are due on a line, in a text for `count` tasks: three on line 1, four for each task, none after the last task
+unfoldable pub due : ℕ → ℕ → ℕ
+due line count = pick (leb line 1) 3 (pick (leb line (count + 1)) 4 0)
+
+-- the task of a line's four numbers
+unfoldable pub taskOf : List ℕ → Task
+taskOf numbers =
+    record { release = getD numbers 0 0; deadline = getD numbers 1 0; mandatory = getD numbers 2 0; optional = getD numbers 3 0 }
+
+-- what a table holds once a line is read: line 1 gives task count, p and q, and line k + 2 gives the task at position k.
+-- Places there are 64: a task beyond them is not kept, and the count tells of it.
+unfoldable pub withLine : Table → ℕ → List ℕ → Table
+withLine t line numbers =
+    pick (leb line 1) (record { count = getD numbers 0 0; p = getD numbers 1 0; q = getD numbers 2 0; tasks = t .tasks })
+    (pick (and (leb line (t .count + 1)) (ltb (line - 2) maxTasks))
+    (record { count = t .count; p = t .p; q = t .q; tasks = set (t .tasks) (line - 2) (taskOf numbers) })
+    t)
+
+-- the line ends: it is wrong where it is spoiled or has not as many numbers as are due; else its numbers go into the table
+unfoldable pub lineWrong : ℕ → ℕ → Line → Bool
+lineWrong line count l = or (l .bad) (not (eqb (l .seen) (due line count)))
+
+unfoldable pub endLine : Scan → Scan
+endLine s =
+    pick (lineWrong (s .line) (s .table .count) (withNumber (s .current)))
+    (record { line = s .line; wrong = s .line; table = s .table; current = s .current })
+    (record { line = s .line + 1; wrong = 0; table = withLine (s .table) (s .line) (withNumber (s .current) .numbers); current = noLine })
+
+-- a byte more of the text; after the first wrong line nothing more is read
+unfoldable pub step : Scan → ℕ → Scan
+step s byte =
+    pick (eqb (s .wrong) 0)
+    (pick (eqb byte newline) (endLine s)
+    (record { line = s .line; wrong = 0; table = s .table; current = withByte (s .current) byte }))
+    s
+
+-- the bytes of a text one after another, from line 1 on
+unfoldable pub start : Scan
+start = record { line = 1; wrong = 0; table = noTable; current = noLine }
+
+unfoldable pub scanned : Scan → List ℕ → Scan
+scanned s [] = s
+scanned s (byte ∷ text) = scanned (step s byte) text
+
+-- what is found at the end: the table, or the first wrong line, what was due there and the table that is 0 throughout
+unfoldable pub found : Scan → Parsed
+found s =
+    pick (eqb (s .wrong) 0) (record { line = 0; due = 0; table = s .table })
+    (record { line = s .wrong; due = due (s .wrong) (s .table .count); table = noTable })
+
+-- a text is read as if two newlines followed it: the first ends a line that lacks its newline, and the second makes a blank line, which is
+-- wrong where a line is missing
+unfoldable pub parsed : List ℕ → Parsed
+parsed text = found (step (step (scanned start text) newline) newline)
+
+-- a refusal of writing is about one task: 12, 6 and 7 are, and 2, 5 and 9 are not
+unfoldable pub aboutTask : ℕ → Bool
+aboutTask number = or (eqb number 12) (or (eqb number 6) (eqb number 7))
+
+-- the line that a refusal of writing is about: line k + 2 where it is about the task at position k, and else line 1
+unfoldable pub refusedLine : ℕ → ℕ → ℕ
+refusedLine number place = pick (and (aboutTask number) (ltb place maxTasks)) (place + 2) 1

@@ -1,0 +1,54 @@
+-- `table_to_text::task_lines` is safe and ends: the measure is the number of places left.
+use Prim.Native.Nat.{_-_}
+use borrow.Author.Needs.{needs}
+use Rattle.table_to_text.proofs.task_lines.Statement.{statement}
+use Rattle.table_to_text.proofs.task_lines.Tie as tie
+
+abbrev Inv-loop : tie.InvT-loop
+Inv-loop table count i₀ i = Unit
+
+abbrev μ-loop : tie.MeasureT-loop
+μ-loop table count i₀ i = 64 - i
+
+cast-count : tie.Need-cast-count Inv-loop μ-loop
+cast-count c = search needs
+
+loop-holds : tie.Need-loop-holds Inv-loop μ-loop
+loop-holds c = search needs
+
+mul-task : tie.Need-mul-task Inv-loop μ-loop
+mul-task c = search needs
+
+element-copy-out-task : tie.Need-element-copy-out-task Inv-loop μ-loop
+element-copy-out-task c = search needs
+
+task-line-requires : tie.Need-task-line-requires Inv-loop μ-loop
+task-line-requires c κs = search needs
+
+add-i : tie.Need-add-i Inv-loop μ-loop
+add-i c = search needs
+
+loop-less : tie.Need-loop-less Inv-loop μ-loop
+loop-less c = search needs
+
+loop-again : tie.Need-loop-again Inv-loop μ-loop
+loop-again c = search needs
+
+returns : tie.Need-returns Inv-loop μ-loop
+returns c = search needs
+
+pub task-lines-spec : {M : Type 1} → statement M
+task-lines-spec =
+    tie.close
+    (tie.spec
+    Inv-loop
+    μ-loop
+    cast-count
+    loop-holds
+    mul-task
+    element-copy-out-task
+    task-line-requires
+    add-i
+    loop-less
+    loop-again
+    returns)
