@@ -9,8 +9,6 @@ use lib.Dec.{ltb, eqb}
 use lib.ListN.{length, take, length-append}
 use lib.Seq.{take-all}
 use borrow.Author.Tests.{eqb-true, eqb-false, ne-eqb, le-ltb}
-use Rattle.base.specs.Tests.{pick}
-use Rattle.base.specs.Lent.{writtenFront}
 use Rattle.base.proofs.TestLaws.{cases, pick-cases}
 use Rattle.bits.specs.Bits.{field, bytesFor}
 use Rattle.table.specs.Layout.{taskStart, fileLength}
@@ -28,7 +26,7 @@ use Rattle.planner.proofs.ColumnLaws.{columns-runs}
 use Rattle.planner.proofs.PlanLaws.{Plannable, marks-length, plan-few}
 use Rattle.planner.proofs.ReplyLaws.{Lists, Replied, file-refused, plan-made, made, runs-are, marks-taken, starts-taken, ends-taken, tasks-taken}
 use Rattle.report.specs.Putting.{Put}
-use Rattle.report.specs.Printing.{space, planWord, dropWord, runWord, refusedWord, decimalWithin, decimal, fields, line, dropsFrom, dropLines, runLine, runLines, planLines, planText, refusalText, longReply, printed, maxText, printLength, printedOver}
+use Rattle.report.specs.Printing.{planWord, dropWord, runWord, refusedWord, decimalWithin, decimal, fields, line, dropsFrom, dropLines, runLine, runLines, planLines, planText, refusalText, longReply, printed, maxText, printLength, printedOver}
 use Rattle.report.proofs.PutLaws.{put-front}
 use Rattle.report.proofs.DecimalLaws.{decimal-length}
 use Rattle.report.proofs.LineLaws.{line-length, plan-length}

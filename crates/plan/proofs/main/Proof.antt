@@ -1,7 +1,7 @@
 -- `plan::main` stays within its arrays: what is printed fits the text.
 use native.Mathlib.Omega.{arith}
 use borrow.Author.Needs.{needs}
-use lib.ListN.{length, take, length-take}
+use lib.ListN.{length-take}
 use Rattle.report.proofs.TextLaws.{print-most}
 use Rattle.plan.proofs.main.Statement.{statement}
 use Rattle.plan.proofs.main.Tie as tie

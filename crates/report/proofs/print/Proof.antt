@@ -8,7 +8,7 @@ use borrow.Author.Tests.{lt-ltb}
 use borrow.Author.Needs.{needs}
 use Rattle.table.specs.Reading.{tableIn}
 use Rattle.planner.proofs.ReplyLaws.{Lists, Replied}
-use Rattle.report.specs.Printing.{longReply, printed, maxText, printLength, printedOver}
+use Rattle.report.specs.Printing.{longReply, maxText, printLength, printedOver}
 use Rattle.report.proofs.TextLaws.{refusal-length, printed-length, printed-refused, file-bits, count-fits, runs-fit, text-is, count-is, print-clauses}
 use Rattle.report.proofs.print.Statement.{statement}
 use Rattle.report.proofs.print.Tie as tie

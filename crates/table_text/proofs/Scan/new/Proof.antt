@@ -1,5 +1,4 @@
 -- `table_text::Scan::new` meets its contract.
-use mathlib.Core.Path.{refl}
 use borrow.Author.Needs.{needs}
 use Rattle.table_text.specs.TableText.{start}
 use Rattle.table_text.proofs.Scan.new.Statement.{statement}
