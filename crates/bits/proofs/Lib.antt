@@ -1,2 +1,3 @@
 pub mod BitsLaws
+pub mod ByteLaws
 pub mod PackLaws

@@ -1,8 +1,8 @@
 // Bit-packed fields: a cursor that reads or writes one field after another, each starting at the bit where the last ended.
 ghost use mathlib.Core.Path.{_≡_};
-ghost use Prim.Native.Nat.{_+_, _*_, _^_, _≤_, _<_};
+ghost use Prim.Native.Nat.{_+_, _-_, _*_, _%_, _^_, _≤_, _<_, min};
 ghost use lib.ListN.{length};
-ghost use Rattle.bits.specs.Bits.{bitAt, field, bitsOf, putBit, putBits};
+ghost use Rattle.bits.specs.Bits.{field, bitsOf, putBits};
 
 // The bit at which the next field starts.
 pub struct Cursor {
@@ -22,23 +22,36 @@ fn wide(byte: u8) -> u32
     byte as u32
 }
 
-// Bit `at` of a byte string.
-fn bit(file: &[u8], at: usize) -> u32
-    requires { ⌜ at < 8 * length (now file) ⌝ }
-    ensures { λ r. ⌜ r ≡ bitAt (now (file .entry)) at ⌝ }
+// How many of `left` bits from bit `at` on lie in the byte of bit `at`.
+fn piece_width(at: usize, left: usize) -> usize
+    ensures { λ r. ⌜ r ≡ min left (8 - at % 8) ⌝ }
 {
-    (wide(file[at / 8]) >> (7 - at % 8) as u32) % 2
+    let room = 8 - at % 8;
+    if left < room {
+        return left;
+    }
+    room
 }
 
-// One bit put into a byte string: the earlier bits of its byte stay, and the later ones are zero.
-fn put_bit(out: &mut [u8], at: usize, bit: u32)
-    requires { ⌜ at < 8 * length (now out) ⌝ }
-    requires { ⌜ bit ≤ 1 ⌝ }
-    ensures { λ _. ⌜ now (out .exit) ≡ putBit (now (out .entry)) at bit ⌝ }
+// The field of `width` bits at bit `at`, all within one byte.
+fn piece(file: &[u8], at: usize, width: u32) -> u32
+    requires { ⌜ at < 8 * length (now file) ⌝ }
+    requires { ⌜ (1 ≤ width) × (at % 8 + width ≤ 8) ⌝ }
+    ensures { λ r. ⌜ r ≡ field (now (file .entry)) at width ⌝ }
 {
-    let low = 7 - (at % 8) as u32;
-    let kept = wide(out[at / 8]) >> low >> 1;
-    out[at / 8] = ((2 * kept + bit) << low) as u8;
+    let behind = 8 - (at % 8) as u32 - width;
+    (wide(file[at / 8]) >> behind) % (1 << width)
+}
+
+// The `width` low bits of `bits` put at bit `at`, all within one byte: the earlier bits of the byte stay, and the later ones are zero.
+fn put_piece(out: &mut [u8], at: usize, width: u32, bits: u32)
+    requires { ⌜ at < 8 * length (now out) ⌝ }
+    requires { ⌜ (1 ≤ width) × (at % 8 + width ≤ 8) ⌝ }
+    ensures { λ _. ⌜ now (out .exit) ≡ putBits (now (out .entry)) at (bitsOf width bits) ⌝ }
+{
+    let low = 8 - (at % 8) as u32 - width;
+    let kept = wide(out[at / 8]) >> low >> width;
+    out[at / 8] = (((kept << width) + bits % (1 << width)) << low) as u8;
 }
 
 impl Cursor {
@@ -58,10 +71,13 @@ impl Cursor {
     {
         let start = self.at;
         let mut value: u32 = 0;
-        let mut i: usize = 0;
-        while i < width {
-            value = 2 * value + bit(file, start + i);
-            i += 1;
+        let mut at = start;
+        let mut left = width;
+        while 0 < left {
+            let count = piece_width(at, left);
+            value = (value << count as u32) + piece(file, at, count as u32);
+            at += count;
+            left -= count;
         }
         Taken {
             value,
@@ -77,10 +93,13 @@ impl Cursor {
         ensures { λ r. ⌜ (r .at ≡ self .at + width) × (now (out .exit) ≡ putBits (now (out .entry)) (self .at) (bitsOf width value)) ⌝ }
     {
         let start = self.at;
-        let mut i: usize = 0;
-        while i < width {
-            put_bit(out, start + i, (value >> (width - 1 - i) as u32) % 2);
-            i += 1;
+        let mut at = start;
+        let mut left = width;
+        while 0 < left {
+            let count = piece_width(at, left);
+            left -= count;
+            put_piece(out, at, count as u32, value >> left as u32);
+            at += count;
         }
         Cursor { at: start + width }
     }
