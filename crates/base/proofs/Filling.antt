@@ -44,16 +44,6 @@ filled-set blank item size count i kept x m l e f =
       beyond = λ k a n. rw (getD-set-other kept i k x blank (omega arith)) (f .beyond k a n);
     }
 
--- a place beyond the count is left
-pub filled-skip : {A : Type 0} (blank : A) (item : ℕ → A) (size count i : ℕ) (kept : List A) → count ≤ i → Filled blank item size count i kept → Filled blank item size count (i + 1) kept
-filled-skip blank item size count i kept l f =
-    record {
-      length-is = f .length-is;
-      before = λ k a b n. f .before k (omega arith) b n;
-      after = λ k a n. f .after k (omega arith) n;
-      beyond = f .beyond;
-    }
-
 -- once every place below the count is filled, the array is the list of places
 pub filled-whole : {A : Type 0} (blank : A) (item : ℕ → A) (size count i : ℕ) (kept : List A) → ((k : ℕ) → k < count → k < size → k < i) → Filled blank item size count i kept
     → kept ≡ places (λ k. pick (ltb k count) (item k) blank) size

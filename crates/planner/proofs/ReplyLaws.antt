@@ -3,7 +3,7 @@ use Prim.Native.Nat.{ℕ, _≤_, _<_}
 use mathlib.Core.Path.{_≡_, refl, sym, ap, _∙_}
 use mathlib.Core.Logic.{_↔_}
 use mathlib.Core.Bool.{true, false}
-use mathlib.Core.List.{List}
+use mathlib.Core.List.{List, map}
 use native.Mathlib.Omega.{arith}
 use lib.Dec.{ltb, eqb}
 use lib.ListN.{length, take, drop, length-map}
@@ -16,6 +16,7 @@ use Rattle.table.specs.Answers.{numberOf, placeOf, isAccepted}
 use Rattle.table.specs.Reading.{tableIn, readAnswer}
 use Rattle.table.proofs.AnswerLaws.{refused-number, accepted-is}
 use Rattle.table.proofs.RoundTrip.{read-legal}
+use Rattle.schedule.specs.declared.Run.{Run}
 use Rattle.schedule.specs.Runs.{runsOf}
 use Rattle.schedule.specs.Judging.{judgeSays, judged}
 use Rattle.planner.specs.declared.Planned.{Planned}
@@ -132,23 +133,24 @@ module _ (file : List ℕ) (reply : Planned) (old new : Lists) (r : Replied file
       ∙ written-taken (reply .number) (tableIn file .count) (planMarks (tableIn file)) (old .marks) zero-is
       (marks-length (tableIn file) (made .made .legal) (made .made .none))
 
+  -- the first places of a column hold one number of each run
+  column-taken : (part : Run → ℕ) (lent column : List ℕ) → column ≡ contentAfter (reply .number) (map part (planRuns (tableIn file))) lent
+      → take (reply .runs) column ≡ map part (planRuns (tableIn file))
+  column-taken part lent column e =
+      ap (take (reply .runs)) e
+      ∙ written-taken (reply .number) (reply .runs) (map part (planRuns (tableIn file))) lent zero-is (length-map (planRuns (tableIn file)) part ∙ sym runs-are)
+
   pub starts-taken : take (reply .runs) (new .starts) ≡ startsOf (planRuns (tableIn file))
   unfolding startsAfter
-  starts-taken =
-      ap (take (reply .runs)) (r .starts-are)
-      ∙ written-taken (reply .number) (reply .runs) (startsOf (planRuns (tableIn file))) (old .starts) zero-is (length-map (planRuns (tableIn file)) (λ run. run .start) ∙ sym runs-are)
+  starts-taken = column-taken (λ run. run .start) (old .starts) (new .starts) (r .starts-are)
 
   pub ends-taken : take (reply .runs) (new .ends) ≡ endsOf (planRuns (tableIn file))
   unfolding endsAfter
-  ends-taken =
-      ap (take (reply .runs)) (r .ends-are)
-      ∙ written-taken (reply .number) (reply .runs) (endsOf (planRuns (tableIn file))) (old .ends) zero-is (length-map (planRuns (tableIn file)) (λ run. run .end) ∙ sym runs-are)
+  ends-taken = column-taken (λ run. run .end) (old .ends) (new .ends) (r .ends-are)
 
   pub tasks-taken : take (reply .runs) (new .tasks) ≡ tasksOf (planRuns (tableIn file))
   unfolding tasksAfter
-  tasks-taken =
-      ap (take (reply .runs)) (r .tasks-are)
-      ∙ written-taken (reply .number) (reply .runs) (tasksOf (planRuns (tableIn file))) (old .tasks) zero-is (length-map (planRuns (tableIn file)) (λ run. run .task) ∙ sym runs-are)
+  tasks-taken = column-taken (λ run. run .task) (old .tasks) (new .tasks) (r .tasks-are)
 
   -- Demand 2: the judge accepts what was written, with the plan's counts.
   pub reply-judged : judged file (take (tableIn file .count) (new .marks)) (take (reply .runs) (new .starts)) (take (reply .runs) (new .ends)) (take (reply .runs) (new .tasks))

@@ -1,7 +1,9 @@
 -- The rules for windows, which reading and writing share. A window goes from its release frame to its deadline frame.
 use Prim.Native.Nat.{ℕ}
+use mathlib.Core.List.{List}
 use mathlib.Core.Bool.{Bool, not}
 use lib.Dec.{leb, ltb}
+use lib.ListN.{getD}
 use Rattle.base.specs.Tests.{pick, and, or}
 use Rattle.base.specs.Lowest.{lowest, someBelow}
 use Rattle.table.specs.declared.Task.{Task}
@@ -21,6 +23,10 @@ contains a b = and (leb (a .release) (b .release)) (leb (b .deadline) (a .deadli
 -- two windows are nested when one contains the other; equal windows are nested
 unfoldable pub nested : Task → Task → Bool
 nested a b = or (contains a b) (contains b a)
+
+-- the window at place j of a column of release frames and a column of deadline frames, as a task of no ticks
+abbrev pub windowAt : List ℕ → List ℕ → ℕ → Task
+windowAt releases deadlines j = record { release = getD releases j 0; deadline = getD deadlines j 0; mandatory = 0; optional = 0 }
 
 -- the window at position k is not nested with that of some earlier position
 unfoldable pub crosses : Table → ℕ → Bool

@@ -1,12 +1,13 @@
 // The table value: its tasks, its places, its constructor, the rules for windows that reading and writing share, and the answers.
 ghost use mathlib.Core.Path.{_≡_};
+ghost use mathlib.Core.Bool.{not};
 ghost use Prim.Native.Nat.{_≤_};
-ghost use lib.ListN.{getD};
+ghost use lib.ListN.{length, getD};
 ghost use Rattle.base.specs.Limits.{maxTasks};
-ghost use Rattle.base.specs.Lowest.{lowest};
+ghost use Rattle.base.specs.Lowest.{lowest, someBelow};
 ghost use Rattle.table.specs.Tables.{noTask, noTable, tableOf, taskAt};
 ghost use Rattle.table.specs.Answers.{numberOf, placeOf, declined, wrote};
-ghost use Rattle.table.specs.Windows.{reversed, contains, nested, crosses, windowAnswer};
+ghost use Rattle.table.specs.Windows.{reversed, contains, nested, windowAt, crosses, windowAnswer};
 ghost use Rattle.table.specs.Layout.{badCount, badPeriod, fileLength};
 use base::MAX_PERIOD;
 use base::MAX_TASKS;
@@ -197,18 +198,40 @@ fn are_nested(a: Task, b: Task) -> bool
     window_contains(a, b) || window_contains(b, a)
 }
 
+// The window of a task is not nested with some of the first `count` windows that stand in two columns.
+fn crosses_earlier(task: Task, releases: &[u32], deadlines: &[u32], count: usize) -> bool
+    requires { ⌜ (count ≤ length (now releases)) × (count ≤ length (now deadlines)) ⌝ }
+    ensures { λ r. ⌜ r ≡ someBelow (λ j. not (nested (windowAt (now (releases .entry)) (now (deadlines .entry)) j) task)) count ⌝ }
+{
+    let mut j: usize = 0;
+    while j < count {
+        let earlier = Task {
+            release: releases[j],
+            deadline: deadlines[j],
+            mandatory: 0,
+            optional: 0,
+        };
+        if !are_nested(earlier, task) {
+            return true;
+        }
+        j += 1;
+    }
+    false
+}
+
 impl Table {
     // The table of the first `count` of some tasks: every place beyond them is 0.
     pub fn new(count: u32, p: u32, q: u32, tasks: [Task; MAX_TASKS]) -> Table
         ensures { λ r. ⌜ r ≡ tableOf count p q (λ k. getD tasks k noTask) ⌝ }
     {
         let mut kept = [NO_TASK; MAX_TASKS];
-        let places = count as usize;
+        let mut places = count as usize;
+        if MAX_TASKS < places {
+            places = MAX_TASKS;
+        }
         let mut i: usize = 0;
-        while i < MAX_TASKS {
-            if i < places {
-                kept[i] = tasks[i];
-            }
+        while i < places {
+            kept[i] = tasks[i];
             i += 1;
         }
         Table {
@@ -243,26 +266,24 @@ impl Table {
         k
     }
 
-    // The lowest position whose window is not nested with that of some earlier one, and the task count where there is none.
+    // The lowest position whose window is not nested with that of some earlier one, and the task count where there is none. The windows that were
+    // passed stand in two columns, so that the inner search need not be lent the table.
     fn first_crossing(self) -> usize
         requires { ⌜ self .count ≤ maxTasks ⌝ }
         ensures { λ r. ⌜ r ≡ lowest (crosses self) (self .count) ⌝ }
     {
+        let mut releases = [0u32; MAX_TASKS];
+        let mut deadlines = [0u32; MAX_TASKS];
         let count = self.count as usize;
         let mut k: usize = 0;
-        let mut j: usize = 0;
         while k < count {
-            if j == k {
-                k += 1;
-                j = 0;
-            } else {
-                let earlier = self.tasks[j];
-                let task = self.tasks[k];
-                if !are_nested(earlier, task) {
-                    return k;
-                }
-                j += 1;
+            let task = self.tasks[k];
+            if crosses_earlier(task, &releases, &deadlines, k) {
+                return k;
             }
+            releases[k] = task.release;
+            deadlines[k] = task.deadline;
+            k += 1;
         }
         k
     }

@@ -1,25 +1,25 @@
 -- `table::Table::new` meets its contract. The loop's invariant: the places below `i` hold what the definition says, and the others are 0.
-use Prim.Native.Nat.{_-_, _≤_}
-use mathlib.Core.Path.{refl, ap}
+use Prim.Native.Nat.{_-_, _≤_, min}
+use mathlib.Core.Path.{_≡_, refl, ap}
 use mathlib.Core.Logic.{⊎-elim}
 use mathlib.Core.List.{List}
 use native.Mathlib.Omega.{arith}
 use lib.ListN.{getD}
 use Rattle.base.specs.Limits.{maxTasks}
+use Rattle.base.proofs.Filling.{Filled, filled-start, filled-set, filled-whole}
 use Rattle.table.specs.declared.Task.{Task}
 use Rattle.table.specs.Tables.{noTask, tableOf}
-use Rattle.base.proofs.Filling.{Filled, filled-start, filled-set, filled-skip, filled-whole}
 use Rattle.table.proofs.Table.new.Statement.{statement}
 use Rattle.table.proofs.Table.new.Tie as tie
 
 abbrev Inv-loop : tie.InvT-loop
-Inv-loop count p q tasks kept₀ places i₀ kept i = (i ≤ 64) × Filled noTask (λ k. getD tasks k noTask) maxTasks count i kept
+Inv-loop count p q tasks kept₀ places i₀ kept i = (i ≤ places) × (places ≡ min count 64) × Filled noTask (λ k. getD tasks k noTask) maxTasks count i kept
 
 abbrev μ-loop : tie.MeasureT-loop
 μ-loop count p q tasks kept₀ places i₀ kept i = 64 - i
 
 loop-holds : tie.Need-loop-holds Inv-loop μ-loop
-loop-holds c = (omega arith, filled-start _ _ _ _)
+loop-holds c = (omega arith, ⊎-elim (λ w. omega (arith, w .0 .taken, w .1)) (λ w. omega (arith, w .0 .left, w .1)) (c .if1 .came), filled-start _ _ _ _)
 
 mul-kept : tie.Need-mul-kept Inv-loop μ-loop
 mul-kept c = omega arith
@@ -40,20 +40,14 @@ loop-less : tie.Need-loop-less Inv-loop μ-loop
 loop-less c = omega arith
 
 loop-again : tie.Need-loop-again Inv-loop μ-loop
-loop-again c = (
-  omega arith,
-  ⊎-elim
-      (λ w. rw (w .2) (filled-set _ _ _ _ _ _ _ (omega arith) (omega arith) refl (c .before .before .loop .inv .1)))
-      (λ w. rw (w .1) (filled-skip _ _ _ _ _ _ (omega arith) (c .before .before .loop .inv .1)))
-      (c .if1 .came),
-)
+loop-again c = (omega arith, c .before .before .loop .inv .1, filled-set _ _ _ _ _ _ _ (omega arith) (omega arith) refl (c .before .before .loop .inv .2))
 
 returns : tie.Need-returns Inv-loop μ-loop
 unfolding tableOf
 returns c =
     ap
-    (λ (kept : List Task). record { count = c .before .before .args .count; p = c .before .before .args .p; q = c .before .before .args .q; tasks = kept })
-    (filled-whole _ _ _ _ _ _ (λ k a b. omega arith) (c .before .loop .inv .1))
+    (λ (kept : List Task). record { count = c .before .before .before .args .count; p = c .before .before .before .args .p; q = c .before .before .before .args .q; tasks = kept })
+    (filled-whole _ _ _ _ _ _ (λ k a b. omega arith) (c .before .loop .inv .2))
 
 pub new-spec : {M : Type 1} → statement M
 new-spec =
