@@ -6,10 +6,10 @@ use native.Mathlib.Nat.{zero-add, suc-add, add-comm, pow-zero, pow-suc, div-one,
 use native.Mathlib.Omega.{arith}
 use lib.Arith.{digits-lt}
 use lib.ListN.{length, getD, set}
-use lib.Pow.{low, shl-exact, pow-mono, pow-pos, shl-lt, shl-shr, shr-shr, pow-add, mod-pow-add}
+use lib.Pow.{low, high, shl-exact, pow-mono, pow-pos, shl-lt, shl-shr, shr-shr, pow-add, mod-pow-add}
 use lib.Seq.{getD-set-same, set-set}
 use Rattle.bits.specs.Bits.{bitAt, field, bitsOf, putBit, putBits}
-use Rattle.bits.proofs.BitsLaws.{number-add, field-lt, byte-prefix}
+use Rattle.bits.proofs.BitsLaws.{number-add, field-lt, byte-prefix, byte-whole}
 use Rattle.bits.proofs.PackLaws.{putBit-length}
 
 -- A field of v + w bits is its first v bits, then its last w.
@@ -28,6 +28,47 @@ field-piece s a w byte h =
     let whole : getD s i 0 / 2 ^ (8 - j - w) ≡ field s (8 * i) j * 2 ^ w + field s (8 * i + j) w =
     rw (behind, ← byte-prefix s i (j + w) byte h) (field-add s (8 * i) j w) in
     rw whole (ap (λ x. field s x w) split ∙ sym (low (field s (8 * i) j) w (field-lt s (8 * i + j) w)))
+
+-- A field that lies within a wider one, v bits behind its start and x bits before its end.
+field-within : (s : List ℕ) (a v w x : ℕ) → field s (a + v) w ≡ field s a (v + w + x) / 2 ^ x % 2 ^ w
+field-within s a v w x =
+    let front : field s a (v + w + x) / 2 ^ x ≡ field s a v * 2 ^ w + field s (a + v) w =
+    rw (field-add s a (v + w) x, high (field s a (v + w)) x (field-lt s (a + (v + w)) x)) (field-add s a v w) in
+    rw front (sym (low (field s a v) w (field-lt s (a + v) w)))
+
+-- Three bytes as one number, as it is computed.
+abbrev pub threeBytes : ℕ → ℕ → ℕ → ℕ
+threeBytes a b c = (a * 2 ^ 16) % 4294967296 + (b * 2 ^ 8) % 4294967296 + c
+
+-- It fits 32 bits, its parts too.
+pub three-lt : (a b c : ℕ) → a < 256 → b < 256 → c < 256
+    → ((a * 2 ^ 16) % 4294967296 + (b * 2 ^ 8) % 4294967296 < 4294967296) × (threeBytes a b c < 4294967296)
+three-lt a b c l m n = rw (shl-exact {a = a} 8 16 32 l (omega arith), shl-exact {a = b} 8 8 32 m (omega arith)) (omega arith, omega arith)
+
+-- A field within three bytes.
+pub field-triple : (s : List ℕ) (at w : ℕ) → getD s (at / 8) 0 < 256 → getD s (at / 8 + 1) 0 < 256 → getD s (at / 8 + 2) 0 < 256 → at % 8 + w ≤ 24
+    → field s at w ≡ threeBytes (getD s (at / 8) 0) (getD s (at / 8 + 1) 0) (getD s (at / 8 + 2) 0) / 2 ^ (24 - at % 8 - w) % 2 ^ w
+field-triple s at w l m n h =
+    let k : ℕ = at / 8 in
+    let j : ℕ = at % 8 in
+    let second : 8 * k + 8 ≡ 8 * (k + 1) = omega arith in
+    let third : 8 * (k + 1) + 8 ≡ 8 * (k + 2) = omega arith in
+    let whole : field s (8 * k) 24 ≡ threeBytes (getD s k 0) (getD s (k + 1) 0) (getD s (k + 2) 0) =
+    rw (
+      shl-exact {a = getD s k 0} 8 16 32 l (omega arith),
+      shl-exact {a = getD s (k + 1) 0} 8 8 32 m (omega arith),
+      field-add s (8 * k) 8 16,
+      second,
+      field-add s (8 * (k + 1)) 8 8,
+      third,
+      byte-whole s k l,
+      byte-whole s (k + 1) m,
+      byte-whole s (k + 2) n,
+    )
+    (omega arith) in
+    let wide : j + w + (24 - j - w) ≡ 24 = omega arith in
+    let split : at ≡ 8 * k + j = omega arith in
+    ap (λ x. field s x w) split ∙ rw (wide, whole) at (field-within s (8 * k) j w (24 - j - w))
 
 -- The bits of a value: those of its high part, then those of its low part.
 pub bitsOf-add : (a b v : ℕ) → bitsOf (a + b) v ≡ bitsOf a (v / 2 ^ b) ++ bitsOf b v
@@ -88,11 +129,11 @@ putBits-piece (suc w) s a v inside h =
     ∙ ap (λ i. set t i (pieceByte t (suc a) (suc w) v)) same ∙ ap (set t (a / 8)) byte ∙ set-set s (a / 8) _ _
 
 -- A power of two that fits 32 bits.
-pub one-shl : (w : ℕ) → w ≤ 8 → (1 * 2 ^ w) % 4294967296 ≡ 2 ^ w
-one-shl w h = rw one-mul (mod-eq-of-lt (omega (arith, pow-mono {i = w} {j = 8} h)))
+pub one-shl : (w : ℕ) → w ≤ 24 → (1 * 2 ^ w) % 4294967296 ≡ 2 ^ w
+one-shl w h = rw one-mul (mod-eq-of-lt (omega (arith, pow-mono {i = w} {j = 24} h)))
 
 -- It is not 0.
-pub one-shl-pos : (w : ℕ) → w ≤ 8 → 0 < (1 * 2 ^ w) % 4294967296
+pub one-shl-pos : (w : ℕ) → w ≤ 24 → 0 < (1 * 2 ^ w) % 4294967296
 one-shl-pos w h = rw (one-shl w h) (pow-pos w)
 
 module _ (s : List ℕ) (a w v byte : ℕ) (here : byte ≡ getD s (a / 8) 0) (small : byte < 256) (h : a % 8 + w ≤ 8) where

@@ -1,6 +1,6 @@
 // Bit-packed fields: a cursor that reads or writes one field after another, each starting at the bit where the last ended.
 ghost use mathlib.Core.Path.{_≡_};
-ghost use Prim.Native.Nat.{_+_, _-_, _*_, _%_, _^_, _≤_, _<_, min};
+ghost use Prim.Native.Nat.{_+_, _-_, _*_, _/_, _%_, _^_, _≤_, _<_, min};
 ghost use lib.ListN.{length};
 ghost use Rattle.bits.specs.Bits.{field, bitsOf, putBits};
 
@@ -54,6 +54,37 @@ fn put_piece(out: &mut [u8], at: usize, width: u32, bits: u32)
     out[at / 8] = (((kept << width) + bits % (1 << width)) << low) as u8;
 }
 
+// The field of `width` bits at bit `at`, all within three bytes: at once.
+fn triple(file: &[u8], at: usize, width: u32) -> u32
+    requires { ⌜ at / 8 + 2 < length (now file) ⌝ }
+    requires { ⌜ at % 8 + width ≤ 24 ⌝ }
+    ensures { λ r. ⌜ r ≡ field (now (file .entry)) at width ⌝ }
+{
+    let k = at / 8;
+    let bytes = (wide(file[k]) << 16) + (wide(file[k + 1]) << 8) + wide(file[k + 2]);
+    let behind = 24 - (at % 8) as u32 - width;
+    (bytes >> behind) % (1 << width)
+}
+
+// The field of `width` bits at bit `start`, piece by piece, each within one byte.
+fn pieces(file: &[u8], start: usize, width: usize) -> u32
+    requires { ⌜ width ≤ 32 ⌝ }
+    requires { ⌜ start + width ≤ 8 * length (now file) ⌝ }
+    requires { ⌜ start + width < 2 ^ 64 ⌝ }
+    ensures { λ r. ⌜ r ≡ field (now (file .entry)) start width ⌝ }
+{
+    let mut value: u32 = 0;
+    let mut at = start;
+    let mut left = width;
+    while 0 < left {
+        let count = piece_width(at, left);
+        value = (value << count as u32) + piece(file, at, count as u32);
+        at += count;
+        left -= count;
+    }
+    value
+}
+
 impl Cursor {
     // The cursor at the first bit.
     pub fn new() -> Cursor
@@ -70,19 +101,15 @@ impl Cursor {
         ensures { λ r. ⌜ (r .value ≡ field (now (file .entry)) (self .at) width) × (r .next .at ≡ self .at + width) ⌝ }
     {
         let start = self.at;
-        let mut value: u32 = 0;
-        let mut at = start;
-        let mut left = width;
-        while 0 < left {
-            let count = piece_width(at, left);
-            value = (value << count as u32) + piece(file, at, count as u32);
-            at += count;
-            left -= count;
+        let next = Cursor { at: start + width };
+        if start / 8 + 2 < file.len() {
+            if start % 8 + width <= 24 {
+                let value = triple(file, start, width as u32);
+                return Taken { value, next };
+            }
         }
-        Taken {
-            value,
-            next: Cursor { at: start + width },
-        }
+        let value = pieces(file, start, width);
+        Taken { value, next }
     }
 
     // The `width` bits of `value` put at the cursor, and the cursor behind them.

@@ -1,24 +1,23 @@
 -- Laws of the rows that the code builds, from the innermost job outwards, and of the best worth that it finds in the last.
 use Prim.Native.Nat.{ℕ, zero, suc, _+_, _*_, _-_, _≤_, _<_, min}
-use mathlib.Core.Path.{_≡_, refl, sym, _∙_}
+use mathlib.Core.Path.{_≡_, refl, sym, ap, _∙_}
 use mathlib.Core.List.{List, [], _∷_}
-use mathlib.Core.Bool.{true, false}
+use mathlib.Core.Bool.{Bool, true, false}
 use native.Mathlib.Omega.{arith}
-use native.Mathlib.Decide.{ℕ-discrete}
-use lib.Dec.{ltb}
+use native.Mathlib.Decide.{decLt, ℕ-discrete}
+use lib.Dec.{leb, ltb}
 use lib.ListN.{length, getD, set, replicate, length-set, length-replicate, getD-replicate}
-use lib.Seq.{getD-set-same, getD-set-other}
+use lib.Seq.{getD-set-other}
 use Rattle.base.specs.Limits.{maxTasks, maxTicks}
 use Rattle.base.specs.Places.{placesFrom, places}
 use Rattle.base.proofs.PlaceLaws.{left-step, left-end}
 use Rattle.base.proofs.TestLaws.{pick-cases}
 use Rattle.schedule.specs.declared.Job.{Job}
 use Rattle.schedule.specs.Jobs.{Bounded, counts}
-use Rattle.choice.specs.declared.Decisions.{Decisions}
 use Rattle.choice.specs.Choice.{windowTicks, fits, keepNone, countOne, kept, discarded, chosen}
 use Rattle.choice.specs.Rows.{mandatorySum, outermostTicks, allWorth, within, keeping, row, greatest, bestWorth, byRows}
-use Rattle.choice.specs.Decisions.{rowPlaces, hugeTicks, rowOf, backOf, outerRow, keepsOver, jobsFrom, noDecisions, Decided}
-use Rattle.choice.proofs.RowLaws.{row-most}
+use Rattle.choice.specs.Decisions.{rowPlaces, hugeTicks, rowOf, backOf, outerRow, keepsOver, jobsFrom, Rewritten, Decided}
+use Rattle.choice.proofs.RowLaws.{row-most, row-beyond}
 use Rattle.choice.proofs.FitLaws.{ticks-outermost, worth-split}
 use Rattle.choice.proofs.ChoiceLaws.{chosen-rows, chosen-keeps}
 
@@ -27,13 +26,20 @@ pub countOne-most : (job : Job) → countOne job ≤ 1
 countOne-most job = pick-cases (λ n. n ≤ 1) (counts job) (λ e. omega arith) (λ e. omega arith)
 
 -- a number of the row outside, from the window, and the ticks with the job kept and with it discarded
-pub outer-made : (job : Job) (mandatory : ℕ) (inner : ℕ → ℕ) (v window with r : ℕ) → window ≡ windowTicks job
-    → with ≡ keeping countOne hugeTicks job inner v → r ≡ within hugeTicks mandatory window (min with (inner v)) → r ≡ outerRow job mandatory inner v
+pub outer-made : (job : Job) (mandatory : ℕ) (inner : ℕ → ℕ) (v window with without r : ℕ) → window ≡ windowTicks job
+    → with ≡ keeping countOne hugeTicks job inner v → without ≡ inner v → r ≡ within hugeTicks mandatory window (min with without)
+    → r ≡ outerRow job mandatory inner v
 unfolding outerRow
-outer-made job mandatory inner v window with r e k m = m ∙ rw (e, k)
+outer-made job mandatory inner v window with without r e k d m = m ∙ rw (e, k, d)
+
+-- and the job's decision there
+pub keeps-made : (job : Job) (inner : ℕ → ℕ) (v with without : ℕ) → with ≡ keeping countOne hugeTicks job inner v → without ≡ inner v
+    → leb with without ≡ keepsOver job inner v
+unfolding keepsOver
+keeps-made job inner v with without k d = rw (k, d)
 
 -- what the row outside is made of: the row inside, up to v
-keeping-same : (job : Job) (f g : ℕ → ℕ) (v : ℕ) → ((k : ℕ) → k ≤ v → f k ≡ g k)
+pub keeping-same : (job : Job) (f g : ℕ → ℕ) (v : ℕ) → ((k : ℕ) → k ≤ v → f k ≡ g k)
     → keeping countOne hugeTicks job f v ≡ keeping countOne hugeTicks job g v
 unfolding keeping
 keeping-same job f g v h = rw (h (v - countOne job) (omega arith))
@@ -66,11 +72,11 @@ greatest-most f (suc n) = pick-cases (λ m. m ≤ suc n) (ltb (f (suc n)) hugeTi
 
 -- The rows are built down to place i: the row of the jobs from there on, the decisions of each, their mandatory ticks and their number of
 -- optional parts above 0 ticks.
-pub record Built (at : ℕ → Job) (count i : ℕ) (ticks : List ℕ) (decisions : List Decisions) (mandatory all : ℕ) : Type 0 where
+pub record Built (at : ℕ → Job) (count i : ℕ) (ticks : List ℕ) (decisions : List Bool) (mandatory all : ℕ) : Type 0 where
   pub within-is : i ≤ count
   pub length-is : length ticks ≡ rowPlaces
   pub numbers : (v : ℕ) → v ≤ count → getD ticks v 0 ≡ rowOf (jobsFrom at count i) v
-  pub places : length decisions ≡ maxTasks
+  pub places : length decisions ≡ rowPlaces * maxTasks
   pub decided : Decided at count i decisions
   pub mandatory-is : mandatory ≡ mandatorySum (jobsFrom at count i)
   pub mandatory-most : mandatory + maxTicks * i ≤ maxTicks * count
@@ -85,14 +91,15 @@ first-row (suc v) l = rw (getD-set-other (replicate rowPlaces hugeTicks) 0 (suc 
 
 module _ (at : ℕ → Job) (count : ℕ) (small : count ≤ maxTasks) where
   -- no row is built yet
-  pub built-start : (none : Decisions) → Built at count count (set (replicate rowPlaces hugeTicks) 0 0) (replicate maxTasks none) 0 0
+  pub built-start : (ticks : List ℕ) (decisions : List Bool) → ticks ≡ replicate rowPlaces hugeTicks → length decisions ≡ rowPlaces * maxTasks
+      → Built at count count (set ticks 0 0) decisions 0 0
   unfolding mandatorySum allWorth
-  built-start none =
+  built-start ticks decisions blank len =
       record {
         within-is = omega arith;
-        length-is = length-set (replicate rowPlaces hugeTicks) 0 0 ∙ length-replicate rowPlaces hugeTicks;
-        numbers = λ v l. rw (left-end at count count (omega arith)) (first-row v (omega arith));
-        places = length-replicate maxTasks none;
+        length-is = length-set ticks 0 0 ∙ (ap length blank ∙ length-replicate rowPlaces hugeTicks);
+        numbers = λ v l. rw (left-end at count count (omega arith), blank) (first-row v (omega arith));
+        places = len;
         decided = record { decided = λ k l m. absurd (omega arith) };
         mandatory-is = rw (left-end at count count (omega arith));
         mandatory-most = omega arith;
@@ -101,41 +108,83 @@ module _ (at : ℕ → Job) (count : ℕ) (small : count ≤ maxTasks) where
       }
 
   -- no number of a row is above huge
-  pub built-below : (i : ℕ) (ticks : List ℕ) (decisions : List Decisions) (mandatory all : ℕ) → Built at count i ticks decisions mandatory all
+  pub built-below : (i : ℕ) (ticks : List ℕ) (decisions : List Bool) (mandatory all : ℕ) → Built at count i ticks decisions mandatory all
       → (v : ℕ) → v ≤ count → getD ticks v 0 ≤ hugeTicks
   built-below i ticks decisions mandatory all b v l = rw (b .numbers v l) (row-most countOne hugeTicks (jobsFrom at count i) v)
 
-  -- the row of one job more
-  pub built-step : (i : ℕ) (ticks : List ℕ) (decisions : List Decisions) (mandatory all : ℕ) → Built at count (i + 1) ticks decisions mandatory all
-      → Bounded (at i) → (next : List ℕ) (decided : Decisions) (worth : ℕ) → worth ≡ countOne (at i) → length next ≡ rowPlaces
-      → ((v : ℕ) → v ≤ count → (getD next v 0 ≡ outerRow (at i) (mandatory + at i .mandatory) (λ k. getD ticks k 0) v)
-      × (getD (decided .keep) v false ≡ keepsOver (at i) (λ k. getD ticks k 0) v))
-      → Built at count i next (set decisions i decided) (mandatory + at i .mandatory) (all + worth)
-  unfolding mandatorySum allWorth
-  built-step i ticks decisions mandatory all b bounded next decided worth one len made =
-      let same : (v : ℕ) → v ≤ count → (k : ℕ) → k ≤ v → getD ticks k 0 ≡ rowOf (jobsFrom at count (i + 1)) k =
-      λ v l k m. b .numbers k (omega arith) in
-      let sum : mandatory + at i .mandatory ≡ mandatorySum (at i ∷ jobsFrom at count (i + 1)) = omega (arith, b .mandatory-is) in
-      record {
-        within-is = omega (arith, b .within-is);
-        length-is = len;
-        numbers = λ v l.
-            made v l .0
-            ∙ (outer-same (at i) (mandatory + at i .mandatory) (λ k. getD ticks k 0) (rowOf (jobsFrom at count (i + 1))) v (same v l)
-            ∙ rw (left-step at count i (omega (arith, b .within-is))) (outer-is (at i) (jobsFrom at count (i + 1)) _ sum v));
-        places = length-set decisions i decided ∙ b .places;
-        decided = record {
+  -- one job more
+  module _ (i : ℕ) (ticks : List ℕ) (decisions : List Bool) (mandatory all : ℕ) (b : Built at count (i + 1) ticks decisions mandatory all)
+      (worth : ℕ) (one : worth ≡ countOne (at i)) where
+    -- the jobs from it on are the job and those inside it
+    from-step : jobsFrom at count i ≡ at i ∷ jobsFrom at count (i + 1)
+    from-step = left-step at count i (omega (arith, b .within-is))
+
+    -- up to v the row that is written over is that of the jobs inside
+    inner-same : (v : ℕ) → v ≤ count → (k : ℕ) → k ≤ v → getD ticks k 0 ≡ rowOf (jobsFrom at count (i + 1)) k
+    inner-same v l k m = b .numbers k (omega arith)
+
+    -- its parts and those of the jobs inside it are counted
+    all-step : all + worth ≡ allWorth countOne (jobsFrom at count i)
+    unfolding allWorth
+    all-step = rw from-step (omega (arith, b .all-is))
+
+    -- its mandatory ticks are added
+    mandatory-step : mandatory + at i .mandatory ≡ mandatorySum (at i ∷ jobsFrom at count (i + 1))
+    unfolding mandatorySum
+    mandatory-step = omega (arith, b .mandatory-is)
+
+    -- the numbers up to all parts are made anew, and beyond them both rows are huge
+    numbers-step : (next : List ℕ) → Rewritten 0 (outerRow (at i) (mandatory + at i .mandatory) (λ k. getD ticks k 0)) 0 0 (all + worth + 1) ticks next
+        → (v : ℕ) → v ≤ count → getD next v 0 ≡ rowOf (jobsFrom at count i) v
+    numbers-step next made v l =
+        let here : 0 + v ≡ v = omega arith in
+        elim (decLt (all + worth) v) [
+          | yes m ↦
+              made .beyond v (omega arith)
+              ∙ (b .numbers v l
+              ∙ (row-beyond countOne hugeTicks (jobsFrom at count (i + 1)) v (omega (arith, b .all-is))
+              ∙ sym (row-beyond countOne hugeTicks (jobsFrom at count i) v (omega (arith, all-step)))))
+          | no m ↦
+              rw here at (made .written v (omega arith) (omega arith))
+              ∙ (outer-same (at i) (mandatory + at i .mandatory) (λ k. getD ticks k 0) (rowOf (jobsFrom at count (i + 1))) v (inner-same v l)
+              ∙ rw from-step (outer-is (at i) (jobsFrom at count (i + 1)) _ mandatory-step v))
+        ]
+
+    -- the job's decisions are written, and those of the jobs inside it stand beyond them
+    decided-step : (next : List Bool) → Rewritten false (keepsOver (at i) (λ k. getD ticks k 0)) (rowPlaces * i) 0 (all + worth + 1) decisions next
+        → Decided at count i next
+    decided-step next made =
+        record {
           decided = λ k l m v n.
               elim (ℕ-discrete k i) [
-                | yes s ↦ rw (s, getD-set-same decisions i decided noDecisions (omega (arith, b .within-is, b .places))) (made v n .1 ∙ keeps-same (at i) (λ k. getD ticks k 0) (rowOf (jobsFrom at count (i + 1))) v (same v n))
-                | no s ↦ rw (getD-set-other decisions i k decided noDecisions s) (b .decided .decided k (omega arith) m v n)
+                | yes s ↦
+                    let h : v ≤ allWorth countOne (jobsFrom at count i) = rw s at n in
+                    rw s
+                    (made .written v (omega arith) (omega (arith, all-step))
+                    ∙ keeps-same (at i) (λ k. getD ticks k 0) (rowOf (jobsFrom at count (i + 1))) v (inner-same v (omega (arith, all-step, b .all-most, countOne-most (at i)))))
+                | no s ↦
+                    made .beyond (rowPlaces * k + v) (omega (arith, b .all-most, countOne-most (at i)))
+                    ∙ b .decided .decided k (omega arith) m v n
               ];
-        };
-        mandatory-is = rw (left-step at count i (omega (arith, b .within-is))) sum;
-        mandatory-most = omega (arith, b .mandatory-most, bounded .mandatory);
-        all-is = rw (left-step at count i (omega (arith, b .within-is))) (omega (arith, b .all-is));
-        all-most = omega (arith, b .all-most, countOne-most (at i));
-      }
+        }
+
+    -- the row of one job more
+    pub built-step : Bounded (at i) → (next : List ℕ) (decided : List Bool)
+        → Rewritten 0 (outerRow (at i) (mandatory + at i .mandatory) (λ k. getD ticks k 0)) 0 0 (all + worth + 1) ticks next
+        × Rewritten false (keepsOver (at i) (λ k. getD ticks k 0)) (rowPlaces * i) 0 (all + worth + 1) decisions decided
+        → Built at count i next decided (mandatory + at i .mandatory) (all + worth)
+    built-step bounded next decided made =
+        record {
+          within-is = omega (arith, b .within-is);
+          length-is = made .0 .same-length ∙ b .length-is;
+          numbers = numbers-step next (made .0);
+          places = made .1 .same-length ∙ b .places;
+          decided = decided-step decided (made .1);
+          mandatory-is = rw from-step mandatory-step;
+          mandatory-most = omega (arith, b .mandatory-most, bounded .mandatory);
+          all-is = all-step;
+          all-most = omega (arith, b .all-most, countOne-most (at i));
+        }
 
 -- no window of bounded jobs has as many ticks as huge
 pub outermost-small : (at : ℕ → Job) (count : ℕ) → ((k : ℕ) → k < count → Bounded (at k)) → outermostTicks (places at count) < hugeTicks

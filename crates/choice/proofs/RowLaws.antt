@@ -6,12 +6,13 @@ use mathlib.Core.List.{List, [], _∷_}
 use mathlib.Core.Bool.{Bool, true, false}
 use native.Mathlib.Nat.{zero-add, add-sub-cancel-left}
 use native.Mathlib.Omega.{arith}
+use native.Mathlib.Decide.{decLt}
 use lib.Dec.{leb, ltb, eqb}
 use borrow.Author.Tests.{leb-true, leb-false, ltb-true, ltb-false, eqb-true, eqb-false, le-leb, lt-leb, lt-ltb, le-ltb}
 use Rattle.base.proofs.TestLaws.{pick-true, pick-false, both-absurd, pick-cases, picked}
 use Rattle.schedule.specs.declared.Job.{Job}
 use Rattle.choice.specs.Choice.{windowTicks, fits, keptTicks, discardMarks, keptWorth, ZeroKept}
-use Rattle.choice.specs.Rows.{mandatorySum, within, keeping, row, greatest, backtrack}
+use Rattle.choice.specs.Rows.{mandatorySum, allWorth, within, keeping, row, greatest, backtrack}
 use Rattle.choice.proofs.OrderLaws.{LexAtMost}
 use Rattle.choice.proofs.FitLaws.{fits-tail, fits-room, room-fits}
 
@@ -137,6 +138,25 @@ module _ (worth : Job → ℕ) (huge : ℕ) where
   row-most (job ∷ jobs) v =
       pick-cases (λ z. z ≤ huge) (leb (mandatorySum (job ∷ jobs) + either job jobs v) (windowTicks job))
       (λ t. omega (arith, row-most jobs v)) (λ t. omega arith)
+
+  -- beyond the worth of all optional parts a row is huge
+  pub row-beyond : (jobs : List Job) (v : ℕ) → allWorth worth jobs < v → row worth huge jobs v ≡ huge
+  unfolding row within allWorth
+  row-beyond [] zero l = absurd (omega arith)
+  row-beyond [] (suc v) l = refl
+  row-beyond (job ∷ jobs) v l =
+      let kept = keeping-enough job (row worth huge jobs) v (omega arith) in
+      let inner = row-beyond jobs (v - worth job) (omega arith) in
+      let least : either job jobs v ≡ huge = omega (arith, row-beyond jobs v (omega arith)) in
+      pick-cases (λ z. z ≡ huge) (leb (mandatorySum (job ∷ jobs) + either job jobs v) (windowTicks job)) (λ t. least) (λ t. refl)
+
+  -- so where it is below huge, the worth is no more than that
+  pub row-below : (jobs : List Job) (v : ℕ) → row worth huge jobs v < huge → v ≤ allWorth worth jobs
+  row-below jobs v l =
+      elim (decLt (allWorth worth jobs) v) [
+        | yes m ↦ absurd (omega (arith, row-beyond jobs v m))
+        | no m ↦ omega arith
+      ]
 
   -- the marks read back from a number of a row keep what it says
   pub backtrack-keeps : (jobs : List Job) (v x : ℕ) → row worth huge jobs v ≡ x → x < huge → Keeps worth jobs v x (backtrack worth huge jobs v x)

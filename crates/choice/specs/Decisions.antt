@@ -1,16 +1,15 @@
 -- What the code holds of the rows: the numbers of the outermost row so far, and of each row the decisions of its job, whether it is kept on the
--- way back.
-use Prim.Native.Nat.{ℕ, _+_, _-_, _≤_, _<_, min}
+-- way back. The decisions of all jobs stand in one list, row after row.
+use Prim.Native.Nat.{ℕ, _+_, _*_, _-_, _≤_, _<_, min}
 use mathlib.Core.Path.{_≡_}
-use mathlib.Core.List.{List, []}
+use mathlib.Core.List.{List}
 use mathlib.Core.Bool.{Bool, false}
 use lib.Dec.{leb}
-use lib.ListN.{getD}
+use lib.ListN.{length, getD}
 use Rattle.base.specs.Places.{placesFrom}
 use Rattle.schedule.specs.declared.Job.{Job}
-use Rattle.choice.specs.declared.Decisions.{Decisions}
 use Rattle.choice.specs.Choice.{windowTicks, countOne}
-use Rattle.choice.specs.Rows.{within, keeping, row, backtrack}
+use Rattle.choice.specs.Rows.{allWorth, within, keeping, row, backtrack}
 
 -- the places of a row: one for each number of optional parts that a list can keep
 abbrev pub rowPlaces : ℕ
@@ -40,11 +39,14 @@ keepsOver job inner v = leb (keeping countOne hugeTicks job inner v) (inner v)
 abbrev pub jobsFrom : (ℕ → Job) → ℕ → ℕ → List Job
 jobsFrom at count i = placesFrom at i (count - i)
 
--- the decisions of no job
-abbrev pub noDecisions : Decisions
-noDecisions = record { keep = [] }
+-- of the places counted from `first` on, those from `low` up to but not at `high` hold their items, and every other place what it held before
+pub record Rewritten {A : Type 0} (blank : A) (item : ℕ → A) (first low high : ℕ) (before after : List A) : Type 0 where
+  pub same-length : length after ≡ length before
+  pub below : (k : ℕ) → k < first + low → getD after k blank ≡ getD before k blank
+  pub written : (v : ℕ) → low ≤ v → v < high → getD after (first + v) blank ≡ item v
+  pub beyond : (k : ℕ) → first + high ≤ k → getD after k blank ≡ getD before k blank
 
--- from job i on, the decisions of each job are those over the row of the jobs inside it
-pub record Decided (at : ℕ → Job) (count i : ℕ) (decisions : List Decisions) : Type 0 where
-  pub decided : (k : ℕ) → i ≤ k → k < count → (v : ℕ) → v ≤ count
-      → getD (getD decisions k noDecisions .keep) v false ≡ keepsOver (at k) (rowOf (jobsFrom at count (k + 1))) v
+-- from job i on, the decisions of each job are those over the row of the jobs inside it, up to the parts of the job and of those
+pub record Decided (at : ℕ → Job) (count i : ℕ) (decisions : List Bool) : Type 0 where
+  pub decided : (k : ℕ) → i ≤ k → k < count → (v : ℕ) → v ≤ allWorth countOne (jobsFrom at count k)
+      → getD decisions (rowPlaces * k + v) false ≡ keepsOver (at k) (rowOf (jobsFrom at count (k + 1))) v

@@ -1,41 +1,26 @@
-// The choice of optional parts: which of them a plan keeps. One row of numbers a job, from the innermost job outwards, and the marks read back
-// from the outermost inwards, as specs/Rows.antt defines them.
+// The choice of optional parts: which of them a plan keeps. One row of numbers a job, from the innermost job outwards, each written over the last,
+// and the marks read back from the outermost inwards, as specs/Rows.antt defines them.
 ghost use mathlib.Core.Path.{_≡_};
 ghost use mathlib.Core.Bool.{true, false};
-ghost use Prim.Native.Nat.{ℕ, _+_, _≤_, _<_, min};
-ghost use lib.ListN.{length, getD};
+ghost use Prim.Native.Nat.{ℕ, _+_, _*_, _≤_, _<_, min};
+ghost use lib.ListN.{length, getD, replicate};
 ghost use Rattle.base.specs.Limits.{maxTasks, maxTicks};
 ghost use Rattle.base.specs.Places.{firstPlaces};
 ghost use Rattle.schedule.specs.Jobs.{noJob, Bounded};
 ghost use Rattle.choice.specs.Choice.{windowTicks, fits, keepNone, countOne, kept, discarded, chosen};
 ghost use Rattle.choice.specs.Rows.{allWorth, within, greatest, keeping};
-ghost use Rattle.choice.specs.Decisions.{rowPlaces, hugeTicks, rowOf, backOf, outerRow, keepsOver, Decided};
+ghost use Rattle.choice.specs.Decisions.{rowPlaces, hugeTicks, rowOf, backOf, outerRow, keepsOver, Rewritten, Decided};
 use base::MAX_TASKS;
 use schedule::Job;
 
 // The places of a row: one for each number of optional parts that a list can keep.
 const PLACES: usize = 65;
 
+// The places of the decisions: a row for each job. That of job k at v parts stands at place PLACES * k + v.
+const ALL_PLACES: usize = PLACES * MAX_TASKS;
+
 // What stands in a row where no list fits: more than any window has ticks.
 const HUGE: u32 = 1_073_741_824;
-
-// Of a job: whether it is kept on the way back, at each number of parts kept.
-struct Decisions {
-    keep: [bool; PLACES],
-}
-
-// A row: the least kept ticks at each number of parts kept, and the decisions of its outermost job.
-struct Row {
-    ticks: [u32; PLACES],
-    decisions: Decisions,
-}
-
-// The row of all jobs, the decisions of each, and the number of optional parts above 0 ticks.
-struct Rows {
-    ticks: [u32; PLACES],
-    decisions: [Decisions; MAX_TASKS],
-    all: usize,
-}
 
 // What the choice comes to: the keep list, in the order of the jobs, and the counts of optional parts above 0 ticks that it keeps and discards.
 pub struct Choice {
@@ -64,14 +49,14 @@ pub fn window_ticks(job: Job) -> u32
     job.deadline - job.release
 }
 
-// The least ticks with v parts kept, the job's among them, from the row of the jobs inside it.
-fn kept_ticks(inner: &[u32], job: Job, v: usize) -> u32
+// The least ticks with v parts kept, the job's among them, from the row of the jobs inside it. `part` is what the job counts.
+fn kept_ticks(inner: &[u32], job: Job, part: usize, v: usize) -> u32
+    requires { ⌜ part ≡ countOne job ⌝ }
     requires { ⌜ v < length (now inner) ⌝ }
     requires { ⌜ job .optional ≤ maxTicks ⌝ }
     requires { ⌜ ((k : ℕ) → k ≤ v → getD (now inner) k 0 ≤ hugeTicks) ⌝ }
     ensures { λ r. ⌜ r ≡ keeping countOne hugeTicks job (λ k. getD (now (inner .entry)) k 0) v ⌝ }
 {
-    let part = worth(job);
     if v < part {
         return HUGE;
     }
@@ -94,41 +79,38 @@ fn least_within(mandatory: u32, window: u32, a: u32, b: u32) -> u32
     HUGE
 }
 
-// The row of a job and the jobs inside it, from the row of those inside and the mandatory ticks of all of them.
-fn next_row(inner: &[u32], job: Job, mandatory: u32, count: usize) -> Row
-    requires { ⌜ count ≤ maxTasks ⌝ }
-    requires { ⌜ count < length (now inner) ⌝ }
+// The row of the jobs inside a job becomes the row of the job and those, up to `most` parts: from there downwards, since a number is made from
+// those at no more parts. `mandatory` is the mandatory ticks of all of them, and the job's decisions go to the places from `at` on.
+fn next_row(row: &mut [u32], keep: &mut [bool], at: usize, job: Job, mandatory: u32, most: usize)
+    requires { ⌜ most < length (now row) ⌝ }
+    requires { ⌜ at + most < length (now keep) ⌝ }
     requires { ⌜ mandatory ≤ hugeTicks ⌝ }
     requires { ⌜ job .optional ≤ maxTicks ⌝ }
-    requires { ⌜ ((k : ℕ) → k ≤ count → getD (now inner) k 0 ≤ hugeTicks) ⌝ }
-    ensures { λ r. ⌜ (length (r .ticks) ≡ rowPlaces) × ((v : ℕ) → v ≤ count → (getD (r .ticks) v 0 ≡ outerRow job mandatory (λ k. getD (now (inner .entry)) k 0) v) × (getD (r .decisions .keep) v false ≡ keepsOver job (λ k. getD (now (inner .entry)) k 0) v)) ⌝ }
+    requires { ⌜ ((k : ℕ) → k ≤ most → getD (now row) k 0 ≤ hugeTicks) ⌝ }
+    ensures { λ _. ⌜ Rewritten 0 (outerRow job mandatory (λ k. getD (now (row .entry)) k 0)) 0 0 (most + 1) (now (row .entry)) (now (row .exit)) × Rewritten false (keepsOver job (λ k. getD (now (row .entry)) k 0)) at 0 (most + 1) (now (keep .entry)) (now (keep .exit)) ⌝ }
 {
-    let mut ticks = [0u32; PLACES];
-    let mut keep = [false; PLACES];
     let window = window_ticks(job);
-    let mut v: usize = 0;
-    while v <= count {
-        let with = kept_ticks(inner, job, v);
-        let without = inner[v];
-        ticks[v] = least_within(mandatory, window, with, without);
-        keep[v] = with <= without;
-        v += 1;
+    let part = worth(job);
+    let mut left = most + 1;
+    while 0 < left {
+        left -= 1;
+        let with = kept_ticks(row, job, part, left);
+        let without = row[left];
+        row[left] = least_within(mandatory, window, with, without);
+        keep[at + left] = with <= without;
     }
-    let decisions = Decisions { keep };
-    Row { ticks, decisions }
 }
 
-// The row of the jobs that stand outermost first at the first `count` places, and the decisions of each.
-fn rows_of(jobs: [Job; MAX_TASKS], count: usize) -> Rows
+// The row of the jobs that stand outermost first at the first `count` places, in a lent row that is huge throughout, and the decisions of each.
+// The number of their optional parts above 0 ticks is given back: beyond it the row stays huge.
+fn rows_of(jobs: [Job; MAX_TASKS], count: usize, row: &mut [u32], keep: &mut [bool]) -> usize
     requires { ⌜ count ≤ maxTasks ⌝ }
     requires { ⌜ ((k : ℕ) → k < count → Bounded (getD jobs k noJob)) ⌝ }
-    ensures { λ r. ⌜ ((v : ℕ) → v ≤ count → getD (r .ticks) v 0 ≡ rowOf (firstPlaces noJob jobs count) v) × Decided (λ k. getD jobs k noJob) count 0 (r .decisions) × (r .all ≡ allWorth countOne (firstPlaces noJob jobs count)) × (r .all ≤ count) ⌝ }
+    requires { ⌜ now row ≡ replicate rowPlaces hugeTicks ⌝ }
+    requires { ⌜ length (now keep) ≡ rowPlaces * maxTasks ⌝ }
+    ensures { λ r. ⌜ ((v : ℕ) → v ≤ count → getD (now (row .exit)) v 0 ≡ rowOf (firstPlaces noJob jobs count) v) × Decided (λ k. getD jobs k noJob) count 0 (now (keep .exit)) × (r ≡ allWorth countOne (firstPlaces noJob jobs count)) × (r ≤ count) ⌝ }
 {
-    let mut ticks = [HUGE; PLACES];
-    ticks[0] = 0;
-    let keep = [false; PLACES];
-    let none = Decisions { keep };
-    let mut decisions = [none; MAX_TASKS];
+    row[0] = 0;
     let mut mandatory: u32 = 0;
     let mut all: usize = 0;
     let mut i = count;
@@ -137,26 +119,19 @@ fn rows_of(jobs: [Job; MAX_TASKS], count: usize) -> Rows
         let job = jobs[i];
         mandatory += job.mandatory;
         all += worth(job);
-        let outer = next_row(&ticks, job, mandatory, count);
-        ticks = outer.ticks;
-        let decided = outer.decisions;
-        decisions[i] = decided;
+        next_row(row, keep, PLACES * i, job, mandatory, all);
     }
-    Rows {
-        ticks,
-        decisions,
-        all,
-    }
+    all
 }
 
 // The most parts that a list that fits keeps, of `most`: the greatest place up to it at which the row is below huge.
-fn most_kept(ticks: [u32; PLACES], most: usize) -> usize
-    requires { ⌜ most ≤ maxTasks ⌝ }
-    ensures { λ r. ⌜ r ≡ greatest hugeTicks (λ v. getD ticks v 0) most ⌝ }
+fn most_kept(row: &[u32], most: usize) -> usize
+    requires { ⌜ most < length (now row) ⌝ }
+    ensures { λ r. ⌜ r ≡ greatest hugeTicks (λ v. getD (now (row .entry)) v 0) most ⌝ }
 {
     let mut v = most;
     while 0 < v {
-        if ticks[v] < HUGE {
+        if row[v] < HUGE {
             return v;
         }
         v -= 1;
@@ -168,12 +143,13 @@ fn most_kept(ticks: [u32; PLACES], most: usize) -> usize
 fn read_back(
     jobs: [Job; MAX_TASKS],
     count: usize,
-    decisions: [Decisions; MAX_TASKS],
+    decisions: &[bool],
     most: usize,
 ) -> [bool; MAX_TASKS]
     requires { ⌜ count ≤ maxTasks ⌝ }
     requires { ⌜ most ≤ count ⌝ }
-    requires { ⌜ Decided (λ k. getD jobs k noJob) count 0 decisions ⌝ }
+    requires { ⌜ length (now decisions) ≡ rowPlaces * maxTasks ⌝ }
+    requires { ⌜ Decided (λ k. getD jobs k noJob) count 0 (now decisions) ⌝ }
     requires { ⌜ rowOf (firstPlaces noJob jobs count) most < hugeTicks ⌝ }
     ensures { λ r. ⌜ firstPlaces false r count ≡ backOf (firstPlaces noJob jobs count) most ⌝ }
 {
@@ -181,8 +157,7 @@ fn read_back(
     let mut v = most;
     let mut i: usize = 0;
     while i < count {
-        let decided = decisions[i];
-        let keep = decided.keep[v];
+        let keep = decisions[PLACES * i + v];
         keeps[i] = keep;
         if keep {
             let job = jobs[i];
@@ -200,14 +175,14 @@ pub fn choose(jobs: [Job; MAX_TASKS], count: usize) -> Choice
     requires { ⌜ fits (firstPlaces noJob jobs count) (keepNone (firstPlaces noJob jobs count)) ≡ true ⌝ }
     ensures { λ r. ⌜ (firstPlaces false (r .keeps) count ≡ chosen (firstPlaces noJob jobs count)) × (r .kept ≡ kept (firstPlaces noJob jobs count) (chosen (firstPlaces noJob jobs count))) × (r .discarded ≡ discarded (firstPlaces noJob jobs count) (chosen (firstPlaces noJob jobs count))) ⌝ }
 {
-    let rows = rows_of(jobs, count);
-    let ticks = rows.ticks;
-    let decisions = rows.decisions;
-    let most = most_kept(ticks, rows.all);
-    let keeps = read_back(jobs, count, decisions, most);
+    let mut row = [HUGE; PLACES];
+    let mut decisions = [false; ALL_PLACES];
+    let all = rows_of(jobs, count, &mut row, &mut decisions);
+    let most = most_kept(&row, all);
+    let keeps = read_back(jobs, count, &decisions, most);
     Choice {
         keeps,
         kept: most as u32,
-        discarded: (rows.all - most) as u32,
+        discarded: (all - most) as u32,
     }
 }

@@ -6,7 +6,7 @@ use mathlib.Core.List.{List, _++_}
 use native.Mathlib.Omega.{arith}
 use lib.Dec.{eqb}
 use lib.IntN.{ℤ}
-use lib.ListN.{length, drop, getD}
+use lib.ListN.{length, drop}
 use borrow.Author.Tests.{lt-ltb, le-ltb}
 use Rattle.base.specs.Limits.{maxTasks}
 use Rattle.base.proofs.LowestLaws.{before, within}
@@ -21,21 +21,20 @@ use Rattle.table.specs.Reading.{tableIn, readAnswer}
 use Rattle.base.specs.Lent.{contentAfter}
 use Rattle.table.specs.Writing.{fileOf}
 use Rattle.table.specs.Moving.{movedTask, movedOutside, firstOutside, movedTable, moveReply, movedOver}
-use Rattle.base.proofs.Filling.{Filled}
-use Rattle.table.proofs.FileLaws.{tableOf-same, fileOf-length}
+use Rattle.base.proofs.Filling.{Filled, filled-whole}
+use Rattle.table.proofs.FileLaws.{fileOf-length}
 
 -- where the search for a task outside ends at the count, no task is outside
 pub none-outside : (shift : ℤ) (t : Table) (k : ℕ) → firstOutside shift t ≡ t .count → k < t .count → movedOutside shift (taskAt t k) ≡ false
 unfolding firstOutside
 none-outside shift t k e l = before (λ k. movedOutside shift (taskAt t k)) (t .count) k (omega arith)
 
--- the constructor's table of the moved tasks is the moved table
-pub moved-filled : (shift : ℤ) (t : Table) (i : ℕ) (tasks : List Task) → t .count ≤ i → Filled noTask (λ k. movedTask shift (taskAt t k)) maxTasks (t .count) i tasks
-    → tableOf (t .count) (t .p) (t .q) (λ k. getD tasks k noTask) ≡ movedTable shift t
-unfolding movedTable
-moved-filled shift t i tasks l f =
-    tableOf-same (t .count) (t .p) (t .q) (λ k. getD tasks k noTask) (λ k. movedTask shift (taskAt t k))
-    (λ k a b. f .before k (omega arith) a b)
+-- the table of the moved tasks is the moved table
+pub moved-filled : (shift : ℤ) (t m : Table) (i : ℕ) (tasks : List Task) → t .count ≤ i → Filled noTask (λ k. movedTask shift (taskAt t k)) maxTasks (t .count) i tasks
+    → m .count ≡ t .count → m .p ≡ t .p → m .q ≡ t .q → m .tasks ≡ tasks → m ≡ movedTable shift t
+unfolding movedTable tableOf
+moved-filled shift t m i tasks l f c e d s =
+    λ j. record { count = c j; p = e j; q = d j; tasks = (s ∙ filled-whole noTask (λ k. movedTask shift (taskAt t k)) maxTasks (t .count) i tasks (λ k a b. omega arith) f) j }
 
 -- a refusal leaves the list as it was
 pub refused-keeps : (s : List ℕ) (shift : ℤ) (out : List ℕ) (reply : Written) → reply ≡ moveReply s shift (length out) → eqb (reply .number) 0 ≡ false

@@ -103,7 +103,7 @@ fn moved_table(table: Table, shift: i32) -> Table
         tasks[i] = moved_task(task, shift);
         i += 1;
     }
-    Table::new(table.count, table.p, table.q, tasks)
+    Table::of_places(table.count, table.p, table.q, tasks)
 }
 
 // Moving: the file of any bytes, moved by any number of frames, gets the reply of document 01, and the file of the moved table is

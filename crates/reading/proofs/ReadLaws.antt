@@ -1,33 +1,25 @@
 -- From what the parts of reading answer to the reply of the whole.
 use Prim.Native.Nat.{ℕ}
-use mathlib.Core.Path.{_≡_}
+use mathlib.Core.Path.{_≡_, ap, _∙_}
 use mathlib.Core.Bool.{false}
 use mathlib.Core.List.{List}
 use lib.Dec.{ltb}
-use lib.ListN.{getD}
-use borrow.Author.Tests.{lt-ltb}
 use Rattle.base.specs.Limits.{maxTasks}
 use Rattle.base.specs.Tests.{pick}
 use Rattle.base.specs.Places.{places}
-use Rattle.base.proofs.PlaceLaws.{places-at}
-use Rattle.table.specs.declared.Task.{Task}
+use Rattle.table.specs.declared.Table.{Table}
 use Rattle.table.specs.declared.Reading.{Reading}
 use Rattle.table.specs.declared.Answer.the-variants.{Accepted}
 use Rattle.table.specs.Tables.{noTask, noTable, tableOf}
 use Rattle.table.specs.Answers.{isAccepted}
 use Rattle.table.specs.Windows.{windowAnswer}
 use Rattle.table.specs.Reading.{countIn, pIn, qIn, taskIn, tableIn, headAnswer, readAnswer, reading}
-use Rattle.table.proofs.FileLaws.{tableOf-same}
 
 -- the header's numbers and the tasks that were taken make the table of the file
-pub table-taken : (s : List ℕ) (count p q : ℕ) (tasks : List Task) → count ≡ countIn s → p ≡ pIn s → q ≡ qIn s
-    → tasks ≡ places (λ k. pick (ltb k count) (taskIn s k) noTask) maxTasks
-    → tableOf count p q (λ k. getD tasks k noTask) ≡ tableIn s
-unfolding tableIn
-table-taken s count p q tasks c e f t =
-    rw (← c, ← e, ← f)
-    (tableOf-same count p q (λ k. getD tasks k noTask) (taskIn s)
-    (λ k l m. rw (t, places-at (λ k. pick (ltb k count) (taskIn s k) noTask) maxTasks k noTask m, lt-ltb k count l)))
+pub table-taken : (s : List ℕ) (count : ℕ) (t : Table) → count ≡ countIn s → t .count ≡ count → t .p ≡ pIn s → t .q ≡ qIn s
+    → t .tasks ≡ places (λ k. pick (ltb k count) (taskIn s k) noTask) maxTasks → t ≡ tableIn s
+unfolding tableIn tableOf
+table-taken s count t c d e f tasks = λ i. record { count = (d ∙ c) i; p = e i; q = f i; tasks = (tasks ∙ ap (λ n. places (λ k. pick (ltb k n) (taskIn s k) noTask) maxTasks) c) i }
 
 -- a reply is known by its answer and its table
 reply-is : (r : Reading) (s : List ℕ) → r .answer ≡ readAnswer s → r .table ≡ pick (isAccepted (readAnswer s)) (tableIn s) noTable → r ≡ reading s

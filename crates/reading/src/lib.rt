@@ -143,7 +143,7 @@ fn table_in(file: &[u8]) -> Table
 {
     let header = take_header(file);
     let tasks = take_tasks(file, header.next, header.count);
-    Table::new(header.count, header.p, header.q, tasks)
+    Table::of_places(header.count, header.p, header.q, tasks)
 }
 
 // The reply of a refused reading: the answer, and a table that is 0 throughout.

@@ -242,6 +242,13 @@ impl Table {
         }
     }
 
+    // The table of the places as they stand, for a caller that has left every place beyond the count 0.
+    pub fn of_places(count: u32, p: u32, q: u32, tasks: [Task; MAX_TASKS]) -> Table
+        ensures { λ r. ⌜ (r .count ≡ count) × (r .p ≡ p) × (r .q ≡ q) × (r .tasks ≡ tasks) ⌝ }
+    {
+        Table { count, p, q, tasks }
+    }
+
     // The table that is 0 throughout.
     pub fn none() -> Table
         ensures { λ r. ⌜ r ≡ noTable ⌝ }

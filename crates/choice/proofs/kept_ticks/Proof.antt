@@ -10,9 +10,6 @@ use Rattle.choice.proofs.RowLaws.{keeping-enough, keeping-short}
 use Rattle.choice.proofs.kept_ticks.Statement.{statement}
 use Rattle.choice.proofs.kept_ticks.Tie as tie
 
-worth-requires : tie.Need-worth-requires
-worth-requires c κs = search needs
-
 returns : tie.Need-returns
 returns c = sym (keeping-short countOne hugeTicks _ _ _ (omega arith))
 
@@ -24,15 +21,14 @@ shared-slice-read-result c = search needs
 
 add-result : tie.Need-add-result
 add-result c =
-    let start = c .before .before .before .before .before in
-    omega (arith, start .pre .1 .1 (start .args .v - c .before .before .before .worth .result) (omega arith))
+    let start = c .before .before .before in
+    omega (arith, start .pre .1 .1 .1 (start .args .v - start .args .part) (omega arith))
 
 returns-2 : tie.Need-returns-2
 returns-2 c =
-    let args = c .before .before .before .before .before .args in
-    rw (keeping-enough countOne hugeTicks (args .job) (λ k. getD (args .inner .now) k 0) (args .v) (omega arith), c .before .before .before .worth .ensures)
+    let start = c .before .before .before in
+    rw (keeping-enough countOne hugeTicks (start .args .job) (λ k. getD (start .args .inner .now) k 0) (start .args .v) (omega arith), start .pre .0)
 
 pub kept-ticks-spec : {M : Type 1} → statement M
 kept-ticks-spec =
-    tie.close
-    (tie.spec worth-requires returns mul-result shared-slice-read-result add-result returns-2)
+    tie.close (tie.spec returns mul-result shared-slice-read-result add-result returns-2)

@@ -59,15 +59,15 @@ unfolding taskAt
 loop-again c =
     (omega arith, filled-set _ _ _ _ _ _ _ (omega arith) (omega arith) (c .moved-task .ensures) (c .before .before .before .loop .inv .1))
 
-new-requires : tie.Need-new-requires Inv-loop μ-loop
-new-requires c κs = search needs
+of-places-requires : tie.Need-of-places-requires Inv-loop μ-loop
+of-places-requires c κs = search needs
 
 returns : tie.Need-returns Inv-loop μ-loop
 returns c =
     let t = c .before .before .before .args .t1 in
-    c .new .ensures
-    ∙ (moved-filled _ t _ _ (omega arith) (c .before .before .loop .inv .1)
-    ∙ ap (λ (z : ℤ). movedTable z t) (as-passed (c .before .before .before .fits .shift)))
+    let made = c .of-places .ensures in
+    moved-filled _ t _ _ _ (omega arith) (c .before .before .loop .inv .1) (made .0) (made .1) (made .2) (made .3)
+    ∙ ap (λ (z : ℤ). movedTable z t) (as-passed (c .before .before .before .fits .shift))
 
 pub moved-table-spec : {M : Type 1} → statement M
 moved-table-spec =
@@ -85,5 +85,5 @@ moved-table-spec =
     add-i
     loop-less
     loop-again
-    new-requires
+    of-places-requires
     returns)

@@ -1,5 +1,5 @@
 -- `reading::table_in` meets its contract.
-use mathlib.Core.Path.{_∙_, ap}
+use mathlib.Core.Path.{ap, _∙_}
 use native.Mathlib.Omega.{arith}
 use borrow.Author.Needs.{needs}
 use Rattle.table.specs.Layout.{taskStart}
@@ -15,13 +15,14 @@ take-tasks-requires c κs =
     let h = c .take-header .ensures in
     (h .3, (omega arith, omega (arith, ap taskStart (h .0))))
 
-new-requires : tie.Need-new-requires
-new-requires c κs = search needs
+of-places-requires : tie.Need-of-places-requires
+of-places-requires c κs = search needs
 
 returns : tie.Need-returns
 returns c =
     let h = c .before .before .take-header .ensures in
-    c .new .ensures ∙ table-taken _ _ _ _ _ (h .0) (h .1) (h .2) (c .before .take-tasks .ensures)
+    let made = c .of-places .ensures in
+    table-taken _ _ _ (h .0) (made .0) (made .1 ∙ h .1) (made .2 ∙ h .2) (made .3 ∙ c .before .take-tasks .ensures)
 
 pub table-in-spec : {M : Type 1} → statement M
-table-in-spec = tie.close (tie.spec take-header-requires take-tasks-requires new-requires returns)
+table-in-spec = tie.close (tie.spec take-header-requires take-tasks-requires of-places-requires returns)

@@ -1,4 +1,4 @@
--- `bits::Cursor::take` meets its contract. The loop's invariant: the value is the field of the bits before `at`, and `left` bits are left. Assumes nothing.
+-- `bits::pieces` meets its contract. The loop's invariant: the value is the field of the bits before `at`, and `left` bits are left. Assumes nothing.
 use Prim.Native.Nat.{ℕ, _+_, _-_, _*_, _%_, _^_, _≤_, _<_}
 use mathlib.Core.Path.{_≡_, refl, sym}
 use mathlib.Core.List.{List}
@@ -8,16 +8,16 @@ use lib.Pow.{pow-mono, shl-exact}
 use Rattle.bits.specs.Bits.{number, field}
 use Rattle.bits.proofs.BitsLaws.{field-lt}
 use Rattle.bits.proofs.ByteLaws.{field-add}
-use Rattle.bits.proofs.Cursor.take.Statement.{statement}
-use Rattle.bits.proofs.Cursor.take.Tie as tie
+use Rattle.bits.proofs.pieces.Statement.{statement}
+use Rattle.bits.proofs.pieces.Tie as tie
 
 abbrev Inv-loop : tie.InvT-loop
-Inv-loop file width start value₀ at₀ left₀ value at left = (left ≤ width) × (at + left ≡ start + width) × (value ≡ field file start (width - left))
+Inv-loop file start width value₀ at₀ left₀ value at left = (left ≤ width) × (at + left ≡ start + width) × (value ≡ field file start (width - left))
 
 abbrev μ-loop : tie.MeasureT-loop
-μ-loop file width start value₀ at₀ left₀ value at left = left
+μ-loop file start width value₀ at₀ left₀ value at left = left
 
-module _ (s : List ℕ) (start width at left value count : ℕ) (few : width ≤ 32) (inv : Inv-loop s width start 0 0 0 value at left) (h : count ≤ left) where
+module _ (s : List ℕ) (start width at left value count : ℕ) (few : width ≤ 32) (inv : Inv-loop s start width 0 0 0 value at left) (h : count ≤ left) where
   -- The value with a piece behind it is a longer field.
   take-more : (value * 2 ^ count) % 4294967296 + field s at count ≡ field s start (width - (left - count))
   take-more =
@@ -52,7 +52,7 @@ add-value : tie.Need-add-value Inv-loop μ-loop
 add-value c =
     let a = c .before .before .before .before .before .args in
     let l = c .before .before .before .loop in
-    rw (c .piece .ensures) (omega (arith, more-lt (a .file .now) (a .self .at) (a .width) (l .at) (l .left) (l .value) (c .before .piece-width .result) (omega arith) (l .inv) (omega arith)))
+    rw (c .piece .ensures) (omega (arith, more-lt (a .file .now) (a .start) (a .width) (l .at) (l .left) (l .value) (c .before .piece-width .result) (omega arith) (l .inv) (omega arith)))
 
 add-at : tie.Need-add-at Inv-loop μ-loop
 add-at c = omega arith
@@ -67,18 +67,15 @@ loop-again : tie.Need-loop-again Inv-loop μ-loop
 loop-again c =
     let a = c .before .before .before .before .before .args in
     let l = c .before .before .before .loop in
-    (omega arith, omega arith, rw (c .piece .ensures) (take-more (a .file .now) (a .self .at) (a .width) (l .at) (l .left) (l .value) (c .before .piece-width .result) (omega arith) (l .inv) (omega arith)))
-
-add-t14 : tie.Need-add-t14 Inv-loop μ-loop
-add-t14 c = omega arith
+    (omega arith, omega arith, rw (c .piece .ensures) (take-more (a .file .now) (a .start) (a .width) (l .at) (l .left) (l .value) (c .before .piece-width .result) (omega arith) (l .inv) (omega arith)))
 
 returns : tie.Need-returns Inv-loop μ-loop
 returns c =
     let none : c .before .loop .left ≡ 0 = omega arith in
-    (rw (c .before .loop .inv .2, none, sub-zero), refl)
+    rw (c .before .loop .inv .2, none, sub-zero)
 
-pub take-spec : {M : Type 1} → statement M
-take-spec =
+pub pieces-spec : {M : Type 1} → statement M
+pieces-spec =
     tie.close
     (tie.spec
     Inv-loop
@@ -94,5 +91,4 @@ take-spec =
     sub-left
     loop-less
     loop-again
-    add-t14
     returns)

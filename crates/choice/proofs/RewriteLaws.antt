@@ -1,0 +1,30 @@
+-- Laws of a list that is written over place by place, from the last of some places downwards.
+use Prim.Native.Nat.{ℕ, _+_, _-_, _≤_, _<_}
+use mathlib.Core.Path.{_≡_, refl, _∙_}
+use mathlib.Core.List.{List}
+use native.Mathlib.Omega.{arith}
+use native.Mathlib.Decide.{ℕ-discrete}
+use lib.ListN.{length, set, length-set}
+use lib.Seq.{getD-set-same, getD-set-other}
+use Rattle.choice.specs.Decisions.{Rewritten}
+
+module _ {A : Type 0} (blank : A) (item : ℕ → A) (first : ℕ) (old : List A) where
+  -- no place is written yet
+  pub rewritten-start : (high : ℕ) → Rewritten blank item first high high old old
+  rewritten-start high =
+      record { same-length = refl; below = λ k l. refl; written = λ v l m. absurd (omega arith); beyond = λ k l. refl }
+
+  -- the place before them is written
+  pub rewritten-next : (low high : ℕ) (list : List A) (place : ℕ) (x : A) → 0 < low → low ≤ high → place ≡ first + (low - 1) → place < length list
+      → x ≡ item (low - 1) → Rewritten blank item first low high old list → Rewritten blank item first (low - 1) high old (set list place x)
+  rewritten-next low high list place x l n e m is r =
+      record {
+        same-length = length-set list place x ∙ r .same-length;
+        below = λ k h. rw (getD-set-other list place k x blank (omega arith)) (r .below k (omega arith));
+        written = λ v h g.
+            elim (ℕ-discrete v (low - 1)) [
+              | yes s ↦ rw (s, ← e, getD-set-same list place x blank m) is
+              | no s ↦ rw (getD-set-other list place (first + v) x blank (omega arith)) (r .written v (omega arith) g)
+            ];
+        beyond = λ k h. rw (getD-set-other list place k x blank (omega arith)) (r .beyond k h);
+      }
