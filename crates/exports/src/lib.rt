@@ -32,10 +32,11 @@ pub extern "C" fn planner_read(file: &[u8]) -> TableRead
     let answer = read.answer;
     let number = answer.number();
     let place = answer.place();
+    let table = read.table;
     TableRead {
         number,
         place,
-        table: read.table,
+        table,
     }
 }
 
