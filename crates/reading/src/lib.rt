@@ -8,7 +8,8 @@ ghost use Rattle.base.specs.Tests.{pick};
 ghost use Rattle.base.specs.Places.{places};
 ghost use Rattle.table.specs.Tables.{noTask, noTable};
 ghost use Rattle.table.specs.Layout.{headerWidth, taskWidth, taskStart, fileLength};
-ghost use Rattle.table.specs.Reading.{countIn, pIn, qIn, taskFrom, taskIn, tableIn, paddingSet, headAnswer, reading};
+ghost use Rattle.table.specs.Reading.{countIn, taskFrom, taskIn, tableIn, paddingSet, headAnswer, reading};
+ghost use Rattle.reading.specs.Headers.{HeaderOf};
 use base::MAX_TASKS;
 use bits::Cursor;
 use table::Answer;
@@ -40,7 +41,7 @@ struct TakenTask {
 // The header of a file: task count, p, q.
 fn take_header(file: &[u8]) -> Header
     requires { ⌜ headerWidth ≤ 8 * length (now file) ⌝ }
-    ensures { λ r. ⌜ (r .count ≡ countIn (now (file .entry))) × (r .p ≡ pIn (now (file .entry))) × (r .q ≡ qIn (now (file .entry))) × (r .next .at ≡ headerWidth) ⌝ }
+    ensures { λ r. ⌜ HeaderOf (now (file .entry)) r ⌝ }
 {
     let count = Cursor::new().take(file, COUNT_WIDTH);
     let p = count.next.take(file, PERIOD_WIDTH);
@@ -106,15 +107,13 @@ fn padding_set(file: &[u8], count: u32) -> bool
     rest.value != 0
 }
 
-// The refusals that need no task, in order: 1 for under 4 bytes, 2, 1, 3, 4, 5.
-fn head_answer(file: &[u8]) -> Answer
+// The refusals of a file of at least 4 bytes that need no task, in order: 2, 1, 3, 4, 5.
+fn head_answer(file: &[u8], header: Header) -> Answer
+    requires { ⌜ 4 ≤ length (now file) ⌝ }
+    requires { ⌜ HeaderOf (now file) header ⌝ }
     ensures { λ r. ⌜ r ≡ headAnswer (now (file .entry)) ⌝ }
 {
     let length = file.len();
-    if length < 4 {
-        return Answer::Short(length);
-    }
-    let header = take_header(file);
     if table::bad_count(header.count) {
         return Answer::Count;
     }
@@ -134,14 +133,13 @@ fn head_answer(file: &[u8]) -> Answer
     Answer::Accepted
 }
 
-// The table that a file holds.
-fn table_in(file: &[u8]) -> Table
-    requires { ⌜ headerWidth ≤ 8 * length (now file) ⌝ }
+// The table that a file holds, from its header.
+fn table_in(file: &[u8], header: Header) -> Table
+    requires { ⌜ HeaderOf (now file) header ⌝ }
     requires { ⌜ countIn (now file) ≤ maxTasks ⌝ }
     requires { ⌜ taskStart (countIn (now file)) ≤ 8 * length (now file) ⌝ }
     ensures { λ r. ⌜ r ≡ tableIn (now (file .entry)) ⌝ }
 {
-    let header = take_header(file);
     let tasks = take_tasks(file, header.next, header.count);
     Table::of_places(header.count, header.p, header.q, tasks)
 }
@@ -158,11 +156,16 @@ fn refused(answer: Answer) -> Reading
 pub fn read(file: &[u8]) -> Reading
     ensures { λ r. ⌜ r ≡ reading (now (file .entry)) ⌝ }
 {
-    let head = head_answer(file);
+    let length = file.len();
+    if length < 4 {
+        return refused(Answer::Short(length));
+    }
+    let header = take_header(file);
+    let head = head_answer(file, header);
     let Answer::Accepted = head else {
         return refused(head);
     };
-    let table = table_in(file);
+    let table = table_in(file, header);
     let windows = table.window_answer();
     let Answer::Accepted = windows else {
         return refused(windows);

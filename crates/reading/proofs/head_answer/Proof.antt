@@ -10,64 +10,59 @@ use Rattle.table.specs.declared.Answer.the-variants.{Long}
 use Rattle.table.specs.Layout.{fileLength, badCount, badPeriod}
 use Rattle.table.specs.Reading.{countIn, paddingSet}
 use Rattle.table.proofs.FileLaws.{count-known}
-use Rattle.reading.proofs.HeadLaws.{under-four, count-bad, too-short, too-long, padding-bad, period-bad, nothing-bad}
+use Rattle.reading.proofs.HeadLaws.{count-bad, too-short, too-long, padding-bad, period-bad, nothing-bad}
 use Rattle.reading.proofs.head_answer.Statement.{statement}
 use Rattle.reading.proofs.head_answer.Tie as tie
 
--- what is known once the count was looked at: the header was read, and the count is that of the file
-record Counted (c : tie.Else2) : Type 0 where
-  four : 4 ≤ length (c .before .before .before .before .before .args .file .now)
-  is : c .before .before .take-header .result .count ≡ countIn (c .before .before .before .before .before .args .file .now)
-  good : badCount (countIn (c .before .before .before .before .before .args .file .now)) ≡ false
-  few : c .before .before .take-header .result .count ≤ maxTasks
+-- what is known once the count was looked at: it is that of the file, and good
+record Counted (c : tie.Else1) : Type 0 where
+  four : 4 ≤ length (c .before .before .before .args .file .now)
+  is : c .before .before .before .args .header .count ≡ countIn (c .before .before .before .args .file .now)
+  good : badCount (countIn (c .before .before .before .args .file .now)) ≡ false
+  few : c .before .before .before .args .header .count ≤ maxTasks
 
-counted : (c : tie.Else2) → Counted c
+counted : (c : tie.Else1) → Counted c
 counted c =
-    let good = sym (c .before .bad-count .ensures) ∙ c .if2 .left in
+    let good = sym (c .before .bad-count .ensures) ∙ c .if1 .left in
+    let is = c .before .before .before .pre .1 .0 in
     record {
-      four = omega arith;
-      is = c .before .before .take-header .ensures .0;
-      good = ap badCount (sym (c .before .before .take-header .ensures .0)) ∙ good;
-      few = count-known (c .before .before .take-header .result .count) good .1;
+      four = c .before .before .before .pre .0;
+      is = is;
+      good = ap badCount (sym is) ∙ good;
+      few = count-known (c .before .before .before .args .header .count) good .1;
     }
 
 -- what is known once the length was looked at: it is the one that the count needs
-record Measured (c : tie.Else4) : Type 0 where
-  needed : c .before .before .file-length .result ≡ fileLength (countIn (c .before .before .before .before .before .before .before .before .args .file .now))
-  exact : length (c .before .before .before .before .before .before .before .before .args .file .now) ≡ c .before .before .file-length .result
+record Measured (c : tie.Else3) : Type 0 where
+  needed : c .before .before .file-length .result ≡ fileLength (countIn (c .before .before .before .before .before .before .args .file .now))
+  exact : length (c .before .before .before .before .before .before .args .file .now) ≡ c .before .before .file-length .result
 
-measured : (c : tie.Else4) → Measured c
+measured : (c : tie.Else3) → Measured c
 measured c =
     record {
       needed = c .before .before .file-length .ensures ∙ ap fileLength (counted (c .before .before .before) .is);
       exact = omega arith;
     }
 
-returns : tie.Need-returns
-returns c = under-four _ (c .if1 .taken)
-
-take-header-requires : tie.Need-take-header-requires
-take-header-requires c κs = search needs
-
 bad-count-requires : tie.Need-bad-count-requires
 bad-count-requires c κs = search needs
 
-returns-2 : tie.Need-returns-2
-returns-2 c =
-    count-bad _ (omega arith)
-    (ap badCount (sym (c .before .before .take-header .ensures .0)) ∙ (sym (c .before .bad-count .ensures) ∙ c .if2 .taken))
+returns : tie.Need-returns
+returns c =
+    count-bad _ (c .before .before .before .pre .0)
+    (ap badCount (sym (c .before .before .before .pre .1 .0)) ∙ (sym (c .before .bad-count .ensures) ∙ c .if1 .taken))
 
 file-length-requires : tie.Need-file-length-requires
 file-length-requires c κs = counted c .few
 
-returns-3 : tie.Need-returns-3
-returns-3 c =
+returns-2 : tie.Need-returns-2
+returns-2 c =
     let k = counted (c .before .before) in
     let needed = c .before .file-length .ensures ∙ ap fileLength (k .is) in
     too-short _ (k .four) (k .good) (omega (arith, needed))
 
-returns-4 : tie.Need-returns-4
-returns-4 c =
+returns-3 : tie.Need-returns-3
+returns-3 c =
     let k = counted (c .before .before .before) in
     let needed = c .before .before .file-length .ensures ∙ ap fileLength (k .is) in
     ap Long needed ∙ too-long _ (k .four) (k .good) (omega (arith, needed)) (omega (arith, needed))
@@ -76,47 +71,45 @@ padding-set-requires : tie.Need-padding-set-requires
 padding-set-requires c κs =
     (counted (c .before .before .before) .few, measured c .exact ∙ c .before .before .file-length .ensures)
 
-returns-5 : tie.Need-returns-5
-returns-5 c =
+returns-4 : tie.Need-returns-4
+returns-4 c =
     let k = counted (c .before .before .before .before .before) in
     let m = measured (c .before .before) in
     padding-bad _ (k .four) (k .good) (omega (arith, m .needed, m .exact)) (omega (arith, m .needed, m .exact))
-    (ap (paddingSet _) (sym (k .is)) ∙ (sym (c .before .padding-set .ensures) ∙ c .if5 .taken))
+    (ap (paddingSet _) (sym (k .is)) ∙ (sym (c .before .padding-set .ensures) ∙ c .if4 .taken))
 
 bad-period-requires : tie.Need-bad-period-requires
 bad-period-requires c κs = search needs
+
+returns-5 : tie.Need-returns-5
+returns-5 c =
+    let k = counted (c .before .before .before .before .before .before .before) in
+    let m = measured (c .before .before .before .before) in
+    let h = c .before .before .before .before .before .before .before .before .before .before .pre .1 in
+    period-bad _ (k .four) (k .good) (omega (arith, m .needed, m .exact)) (omega (arith, m .needed, m .exact))
+    (ap (paddingSet _) (sym (k .is)) ∙ (sym (c .before .before .before .padding-set .ensures) ∙ c .before .before .if4 .left))
+    (ap₂ badPeriod (sym (h .1)) (sym (h .2)) ∙ (sym (c .before .bad-period .ensures) ∙ c .if5 .taken))
 
 returns-6 : tie.Need-returns-6
 returns-6 c =
     let k = counted (c .before .before .before .before .before .before .before) in
     let m = measured (c .before .before .before .before) in
-    let h = c .before .before .before .before .before .before .before .before .before .take-header .ensures in
-    period-bad _ (k .four) (k .good) (omega (arith, m .needed, m .exact)) (omega (arith, m .needed, m .exact))
-    (ap (paddingSet _) (sym (k .is)) ∙ (sym (c .before .before .before .padding-set .ensures) ∙ c .before .before .if5 .left))
-    (ap₂ badPeriod (sym (h .1)) (sym (h .2)) ∙ (sym (c .before .bad-period .ensures) ∙ c .if6 .taken))
-
-returns-7 : tie.Need-returns-7
-returns-7 c =
-    let k = counted (c .before .before .before .before .before .before .before) in
-    let m = measured (c .before .before .before .before) in
-    let h = c .before .before .before .before .before .before .before .before .before .take-header .ensures in
+    let h = c .before .before .before .before .before .before .before .before .before .before .pre .1 in
     nothing-bad _ (k .four) (k .good) (omega (arith, m .needed, m .exact)) (omega (arith, m .needed, m .exact))
-    (ap (paddingSet _) (sym (k .is)) ∙ (sym (c .before .before .before .padding-set .ensures) ∙ c .before .before .if5 .left))
-    (ap₂ badPeriod (sym (h .1)) (sym (h .2)) ∙ (sym (c .before .bad-period .ensures) ∙ c .if6 .left))
+    (ap (paddingSet _) (sym (k .is)) ∙ (sym (c .before .before .before .padding-set .ensures) ∙ c .before .before .if4 .left))
+    (ap₂ badPeriod (sym (h .1)) (sym (h .2)) ∙ (sym (c .before .bad-period .ensures) ∙ c .if5 .left))
 
 pub head-answer-spec : {M : Type 1} → statement M
 head-answer-spec =
     tie.close
     (tie.spec
-    returns
-    take-header-requires
     bad-count-requires
-    returns-2
+    returns
     file-length-requires
+    returns-2
     returns-3
-    returns-4
     padding-set-requires
-    returns-5
+    returns-4
     bad-period-requires
-    returns-6
-    returns-7)
+    returns-5
+    returns-6)

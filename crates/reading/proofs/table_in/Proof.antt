@@ -7,12 +7,9 @@ use Rattle.reading.proofs.ReadLaws.{table-taken}
 use Rattle.reading.proofs.table_in.Statement.{statement}
 use Rattle.reading.proofs.table_in.Tie as tie
 
-take-header-requires : tie.Need-take-header-requires
-take-header-requires c κs = search needs
-
 take-tasks-requires : tie.Need-take-tasks-requires
 take-tasks-requires c κs =
-    let h = c .take-header .ensures in
+    let h = c .before .pre .0 in
     (h .3, (omega arith, omega (arith, ap taskStart (h .0))))
 
 of-places-requires : tie.Need-of-places-requires
@@ -20,9 +17,9 @@ of-places-requires c κs = search needs
 
 returns : tie.Need-returns
 returns c =
-    let h = c .before .before .take-header .ensures in
+    let h = c .before .before .before .pre .0 in
     let made = c .of-places .ensures in
     table-taken _ _ _ (h .0) (made .0) (made .1 ∙ h .1) (made .2 ∙ h .2) (made .3 ∙ c .before .take-tasks .ensures)
 
 pub table-in-spec : {M : Type 1} → statement M
-table-in-spec = tie.close (tie.spec take-header-requires take-tasks-requires of-places-requires returns)
+table-in-spec = tie.close (tie.spec take-tasks-requires of-places-requires returns)
