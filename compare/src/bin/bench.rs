@@ -108,6 +108,11 @@ fn most_runs(n: usize) -> Table {
     nest(n, |i| (20 + i * 7 % 41, 110 + i * 13 % 29))
 }
 
+/// Each task leaves a gap below its run, and the outermost fills all of them.
+fn most_gaps(n: usize) -> Table {
+    nest(n, |i| if i == 0 { (160 * n as u32, 10) } else { (20, 10) })
+}
+
 /// Lists to lend, never cleared between calls.
 struct Lists {
     marks: Vec<u8>,
@@ -164,7 +169,7 @@ fn main() {
     println!();
     println!("{:<52} {:>10} {:>10} {:>7} {:>7}", "", "proved", "reference", "ratio", "target");
 
-    for (name, table) in [("loose", loose(64)), ("tight", tight(64)), ("most runs", most_runs(64))] {
+    for (name, table) in [("loose", loose(64)), ("tight", tight(64)), ("most runs", most_runs(64)), ("most gaps", most_gaps(64))] {
         let (said, _, _) = planned(&table);
         line(&format!("plan 64, {name} ({said})"), 1.5, plan(&inputs::pack(&table)));
     }

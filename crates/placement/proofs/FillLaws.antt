@@ -1,71 +1,211 @@
--- How the runs of one more job are stored: gap by gap, each old run behind what its gap gets.
-use Prim.Native.Nat.{ℕ, zero, suc, _+_, _-_, _≤_, _<_, min}
-use mathlib.Core.Path.{_≡_, refl}
-use mathlib.Core.List.{List, [], _∷_}
+-- A job filled into runs that stand in columns: the walk over the gaps above runs, and then the gap below all.
+use Prim.Native.Nat.{ℕ, _+_, _-_, _≤_, _<_, min}
+use mathlib.Core.Path.{_≡_, refl, sym, ap, _∙_}
+use mathlib.Core.List.{List, [], _∷_, _++_, append-assoc, append-nil}
 use native.Mathlib.Omega.{arith}
-use lib.ListN.{length, getD}
-use Rattle.base.specs.Places.{placesFrom, firstPlaces}
-use Rattle.base.proofs.PlaceLaws.{left-start, left-step, left-end}
-use Rattle.base.proofs.Storing.{Stored, stored-start, stored-whole}
+use native.Mathlib.Decide.{decLt}
+use lib.ListN.{length, length-append}
 use Rattle.schedule.specs.declared.Job.{Job}
 use Rattle.schedule.specs.declared.Run.{Run}
-use Rattle.schedule.specs.Runs.{noRun}
+use Rattle.placement.specs.declared.Span.{Span}
 use Rattle.placement.specs.Filling.{addRun, fill}
+use Rattle.placement.specs.HeldRuns.{runsDown, Closed, bottomOf, runBelow, RunInserted, Held, jobFilled, FilledAbove}
+use Rattle.placement.proofs.GapLaws.{add-some, add-none, fill-length, fill-last, closed-joined, Above, above-start, above-next, above-done, above-closed, above-all}
+use Rattle.placement.proofs.HeldLaws.{runs-length, runs-none, runs-same, runs-split, runs-highest, runs-lowest, runs-bottom, runs-inserted}
 
--- a gap that gets ticks has one run more
-add-some : (i top n : ℕ) (rest : List Run) → 0 < n → addRun i top n rest ≡ record { start = top - n; end = top; task = i } ∷ rest
-add-some i top zero rest l = absurd (omega arith)
-add-some i top (suc n) rest l = refl
+module _ (old : ℕ → Run) (span : Span) (job : Job) (work : ℕ) where
+  -- all runs once the job is filled in
+  abbrev pub whole : List Run
+  whole = jobFilled span job work old
 
--- and one that gets none has not
-add-none : (i top n : ℕ) (rest : List Run) → n ≤ 0 → addRun i top n rest ≡ rest
-add-none i top zero rest l = refl
-add-none i top (suc n) rest l = absurd (omega arith)
+  -- they are no fewer than the runs before
+  pub span-room : span .end ≤ span .first + length whole
+  span-room =
+      omega (
+        arith,
+        runs-length old (span .first) (span .end),
+        fill-length (job .position) (job .release) (runsDown old (span .first) (span .end)) (job .deadline) work,
+      )
 
-module _ (old : List Run) (count : ℕ) (job : Job) (work : ℕ) where
-  -- the whole list that is stored: the job filled into the first `count` old runs
-  unfoldable pub whole : List Run
-  whole = fill (job .position) (job .release) (firstPlaces noRun old count) (job .deadline) work
+  -- the gaps above the runs from place k on are filled: these runs now end at place `end`, and those up to k stand as before
+  pub record Passed (new : ℕ → Run) (k end top left : ℕ) : Type 0 where
+    pub reached : span .closed ≤ k
+    pub within : k ≤ span .end
+    pub longer : span .end ≤ end
+    pub same : (j : ℕ) → j ≤ k → j < span .end → new j ≡ old j
+    pub above : Above (job .position) (job .release) (job .deadline) whole (runsDown new k end) (runsDown old (span .first) k) top left
 
-  -- what is left of it at the k-th old run, where w ticks of work are left below `top`
-  unfoldable pub left : ℕ → ℕ → ℕ → List Run
-  left k top w = fill (job .position) (job .release) (placesFrom (λ j. getD old j noRun) k (count - k)) top w
+  -- at first none is passed
+  pub passed-start : Held span old → Passed old (span .end) (span .end) (job .deadline) work
+  passed-start h =
+      record {
+        reached = h .high;
+        within = omega arith;
+        longer = omega arith;
+        same = λ j a b. refl;
+        above = rw (runs-none old (span .end) (span .end) (omega arith))
+            (above-start (job .position) (job .release) (job .deadline) whole (runsDown old (span .first) (span .end)) work refl);
+      }
 
-  -- what is left of it behind the gap above the k-th old run, of which n ticks are taken: the run and the rest
-  abbrev pub behind : ℕ → ℕ → ℕ → List Run
-  behind k w n = getD old k noRun ∷ left (k + 1) (getD old k noRun .start) (w - n)
+  module _ (held : Held span old) (new : ℕ → Run) (k end top left n : ℕ) (more : span .closed < k) (passed : Passed new k end top left) (gap : n ≡ min left (top - new (k - 1) .end)) where
+    -- the gap above the next run, as a step of the walk over lists
+    next-above : Above (job .position) (job .release) (job .deadline) whole
+        (runsDown new k end ++ addRun (job .position) top n (new (k - 1) ∷ [])) (runsDown old (span .first) (k - 1)) (new (k - 1) .start) (left - n)
+    next-above =
+        let below : new (k - 1) ≡ old (k - 1) = passed .same (k - 1) (omega arith) (omega (arith, passed .within)) in
+        above-next (job .position) (job .release) (job .deadline) whole (runsDown new k end) (new (k - 1)) (runsDown old (span .first) (k - 1)) top left n gap
+        (rw (below, ← runs-highest old (span .first) k (omega (arith, held .low))) (passed .above))
 
-  -- at first all is left
-  pub fill-start : (array : List Run) → length (fill (job .position) (job .release) (firstPlaces noRun old count) (job .deadline) work) ≤ length array
-      → Stored whole (left 0 (job .deadline) work) 0 array
-  unfolding whole left
-  fill-start array h = rw (left-start (λ j. getD old j noRun) count) (stored-start whole array h)
+    -- where the gap gets a run, there is room for it
+    pub passed-room : 0 < n → end + 1 ≤ span .first + length whole
+    passed-room l =
+        let i = job .position in
+        let rest = fill i (job .release) (runsDown old (span .first) (k - 1)) (new (k - 1) .start) (left - n) in
+        let two = runBelow i top n ∷ (new (k - 1) ∷ []) in
+        let joined : (runsDown new k end ++ two) ++ rest ≡ whole = rw (add-some i top n (new (k - 1) ∷ []) l) at (next-above .joined) in
+        omega (
+          arith,
+          ap length joined,
+          length-append (runsDown new k end ++ two) rest,
+          length-append (runsDown new k end) two,
+          runs-length new k end,
+          runs-length old (span .first) (k - 1),
+          fill-length i (job .release) (runsDown old (span .first) (k - 1)) (new (k - 1) .start) (left - n),
+          held .low,
+          passed .within,
+          passed .longer,
+        )
 
-  -- at an old run: what the gap above it gets, and what is behind the gap
-  pub fill-run : (k top w n m : ℕ) (array : List Run) → k < count → n ≡ min w (top - getD old k noRun .end) → Stored whole (left k top w) m array
-      → Stored whole (addRun (job .position) top n (behind k w n)) m array
-  unfolding fill left
-  fill-run k top w n m array l e s =
-      let less : w - n ≡ w - (top - getD old k noRun .end) = omega arith in
-      rw (less, e) (rw (left-step (λ j. getD old j noRun) count k l) at s)
+    -- the gap gets a run, which is put in
+    pub passed-some : (newer : ℕ → Run) → 0 < n → RunInserted k end (runBelow (job .position) top n) new newer
+        → Passed newer (k - 1) (end + 1) (newer (k - 1) .start) (left - n)
+    passed-some newer l h =
+        let run = runBelow (job .position) top n in
+        let below : newer (k - 1) ≡ new (k - 1) = h .below (k - 1) (omega arith) in
+        let upper : runsDown newer (k - 1) (end + 1) ≡ runsDown new k end ++ (run ∷ (new (k - 1) ∷ [])) =
+        rw (runs-lowest newer k (end + 1) (omega arith) (omega (arith, passed .within, passed .longer)), runs-inserted new newer k end run (omega (arith, passed .within, passed .longer)) h, below)
+        (append-assoc (runsDown new k end) (run ∷ []) (new (k - 1) ∷ [])) in
+        record {
+          reached = omega arith;
+          within = omega (arith, passed .within);
+          longer = omega (arith, passed .longer);
+          same = λ j a b. h .below j (omega arith) ∙ passed .same j (omega arith) b;
+          above = rw (upper, below) (rw (add-some (job .position) top n (new (k - 1) ∷ []) l) at next-above);
+        }
 
-  -- below the last old run: what the last gap gets
-  pub fill-last : (k top w n m : ℕ) (array : List Run) → count ≤ k → n ≡ min w (top - job .release) → Stored whole (left k top w) m array
-      → Stored whole (addRun (job .position) top n []) m array
-  unfolding fill left
-  fill-last k top w n m array l e s = rw e (rw (left-end (λ j. getD old j noRun) count k l) at s)
+    -- the gap gets none
+    pub passed-none : n ≤ 0 → Passed new (k - 1) end (new (k - 1) .start) (left - n)
+    passed-none l =
+        record {
+          reached = omega arith;
+          within = omega (arith, passed .within);
+          longer = passed .longer;
+          same = λ j a b. passed .same j (omega arith) b;
+          above = rw (runs-lowest new k end (omega arith) (omega (arith, passed .within, passed .longer)))
+              (rw (add-none (job .position) top n (new (k - 1) ∷ []) l) at next-above);
+        }
 
-  -- nothing is left: the job is filled in
-  pub fill-end : (m : ℕ) (array : List Run) → Stored whole [] m array
-      → firstPlaces noRun array m ≡ fill (job .position) (job .release) (firstPlaces noRun old count) (job .deadline) work
-  unfolding whole
-  fill-end m array s = stored-whole noRun whole m array s
+  module _ (held : Held span old) (new : ℕ → Run) (k end top left : ℕ) (passed : Passed new k end top left) where
+    -- the runs are those that were passed and those that were not
+    parts : runsDown new (span .first) end ≡ runsDown new k end ++ runsDown old (span .first) k
+    parts =
+        rw (
+          runs-split new (span .first) k end (omega (arith, held .low, passed .reached)) (omega (arith, passed .within, passed .longer)),
+          runs-same new old (span .first) k (λ j a b. passed .same j (omega arith) (omega (arith, passed .within))),
+        )
 
--- a gap that gets ticks: the run of them is next
-pub gap-some : (whole rest : List Run) (i top n m : ℕ) (array : List Run) (run : Run) → 0 < n → run ≡ record { start = top - n; end = top; task = i }
-    → Stored whole (addRun i top n rest) m array → Stored whole (run ∷ rest) m array
-gap-some whole rest i top n m array run l e s = rw e (rw (add-some i top n rest l) at s)
+    -- up to the closed place nothing changed
+    still-held : Held (record { first = span .first; closed = span .closed; end = end }) new
+    still-held =
+        record {
+          low = held .low;
+          high = omega (arith, held .high, passed .longer);
+          empty = λ l. let none : span .end ≤ span .first = held .empty (omega (arith, passed .longer)) in omega (arith, held .high);
+          unbroken =
+              elim (decLt (span .closed) (span .end)) [
+                | yes l ↦ rw (
+                  passed .same (span .closed) (passed .reached) l,
+                  runs-same new old (span .first) (span .closed) (λ j a b. passed .same j (omega (arith, passed .reached)) (omega arith)),
+                )
+                    (held .unbroken)
+                | no l ↦ let none : span .end ≤ span .first = held .empty (omega arith) in
+                    rw (runs-none new (span .first) (span .closed) (omega (arith, held .high))) tt
+              ];
+        }
 
--- a gap that gets none is passed
-pub gap-none : (whole rest : List Run) (i top n m : ℕ) (array : List Run) → n ≤ 0 → Stored whole (addRun i top n rest) m array → Stored whole rest m array
-gap-none whole rest i top n m array l s = rw (add-none i top n rest l) at s
+    -- the runs below the last gap are closed
+    last-closed : k ≤ span .closed → Closed top (runsDown old (span .first) k)
+    last-closed l =
+        let last : k ≡ span .closed = omega (arith, passed .reached) in
+        elim (decLt (span .closed) (span .end)) [
+          | yes m ↦
+              let start : old (span .closed) .start ≡ top =
+              ap (λ (run : Run). run .start) (sym (passed .same (span .closed) (passed .reached) m))
+              ∙ (sym (runs-bottom new (span .closed) end (job .deadline) (omega (arith, passed .longer))) ∙ (rw last at (passed .above .bottom))) in
+              rw (last, ← start) (held .unbroken)
+          | no m ↦ let none : span .end ≤ span .first = held .empty (omega arith) in
+              rw (runs-none old (span .first) k (omega (arith, held .high))) tt
+        ]
+
+    -- no work is left
+    pub passed-done : left ≡ 0 → FilledAbove span job work old end left new
+    passed-done e =
+        record {
+          held = still-held;
+          joined = rw parts
+              (above-done (job .position) (job .release) (job .deadline) whole (runsDown new k end) (runsDown old (span .first) k) top left e (passed .above));
+          closed = λ l. absurd (omega arith);
+        }
+
+    -- no gap above a run is left
+    pub passed-all : k ≤ span .closed → FilledAbove span job work old end left new
+    passed-all l =
+        record {
+          held = still-held;
+          joined = rw parts
+              (above-closed (job .position) (job .release) (job .deadline) whole (runsDown new k end) (runsDown old (span .first) k) top left (last-closed l) (passed .above));
+          closed = λ m. rw parts
+              (above-all (job .position) (job .release) (job .deadline) whole (runsDown new k end) (runsDown old (span .first) k) top left (last-closed l) (passed .above) m);
+        }
+
+  module _ (new : ℕ → Run) (end top left n : ℕ) (got : FilledAbove span job work old end left new)
+      (bottom : top ≡ bottomOf (job .deadline) (runsDown new (span .first) end)) (gap : n ≡ min left (top - job .release)) where
+    -- below the runs goes what the last gap gets
+    below-joined : runsDown new (span .first) end ++ addRun (job .position) top n [] ≡ whole
+    below-joined =
+        rw (← fill-last (job .position) (job .release) top left n gap, bottom) (got .joined)
+
+    -- it gets none: all runs are found
+    pub below-none : n ≡ 0 → runsDown new (span .first) end ≡ whole
+    below-none e =
+        sym (append-nil (runsDown new (span .first) end)) ∙ (rw (add-none (job .position) top n [] (omega arith)) at below-joined)
+
+    module _ (newer : ℕ → Run) (some : 0 < n) (room : 0 < span .first) (same : (j : ℕ) → span .first ≤ j → newer j ≡ new j) (here : newer (span .first - 1) ≡ runBelow (job .position) top n) where
+      -- it gets a run, which is put in front
+      front : runsDown newer (span .first - 1) end ≡ runsDown new (span .first) end ++ (runBelow (job .position) top n ∷ [])
+      front =
+          rw (
+            runs-lowest newer (span .first) end room (omega (arith, got .held .low, got .held .high)),
+            here,
+            runs-same newer new (span .first) end (λ j a b. same j a),
+          )
+
+      -- all runs are found,
+      pub below-some : runsDown newer (span .first - 1) end ≡ whole
+      below-some = rw front (rw (add-some (job .position) top n [] some) at below-joined)
+
+      -- and there is no gap between them
+      pub below-held : Held (record { first = span .first - 1; closed = end - 1; end = end }) newer
+      below-held =
+          let upper : Closed (job .deadline) (runsDown new (span .first) end) = got .closed (omega arith) in
+          let lower : Closed (bottomOf (job .deadline) (runsDown new (span .first) end)) (runBelow (job .position) top n ∷ []) = (omega arith, tt) in
+          let all : Closed (job .deadline) (runsDown newer (span .first - 1) end) =
+          rw front (closed-joined (job .deadline) (runsDown new (span .first) end) (runBelow (job .position) top n ∷ []) upper lower) in
+          let first-is : Closed (job .deadline) (newer (end - 1) ∷ runsDown newer (span .first - 1) (end - 1)) =
+          rw (runs-highest newer (span .first - 1) end (omega (arith, got .held .low, got .held .high))) at all in
+          record {
+            low = omega (arith, got .held .low, got .held .high);
+            high = omega arith;
+            empty = λ l. absurd (omega (arith, got .held .low, got .held .high));
+            unbroken = first-is .1;
+          }

@@ -1,23 +1,24 @@
 -- The runs of jobs that stand in an array, filled in from the last job to the first.
 use Prim.Native.Nat.{ℕ, _+_, _-_, _*_, _≤_, _<_}
 use mathlib.Core.Path.{_≡_, sym, ap, _∙_}
-use mathlib.Core.List.{List, [], _∷_}
+use mathlib.Core.List.{List, [], _∷_, reverse}
 use mathlib.Core.Bool.{Bool, true, false}
 use native.Mathlib.Omega.{arith}
 use lib.ListN.{length, getD}
 use Rattle.base.specs.Places.{placesFrom, firstPlaces}
-use Rattle.base.proofs.PlaceLaws.{from-length, places-length, left-start, left-step, left-end}
+use Rattle.base.proofs.PlaceLaws.{from-length, left-start, left-step, left-end}
 use Rattle.schedule.specs.declared.Job.{Job}
 use Rattle.schedule.specs.declared.Run.{Run}
 use Rattle.schedule.specs.Jobs.{noJob}
-use Rattle.schedule.specs.Runs.{noRun}
 use Rattle.schedule.specs.Runnings.{All}
 use Rattle.choice.specs.Choice.{workWith, fits}
 use Rattle.placement.specs.Nesting.{Chain}
-use Rattle.placement.specs.Placing.{placed, latestFirst, outermostDeadline}
+use Rattle.placement.specs.Placing.{placed, latestFirst, outermostDeadline, runsPlaced}
 use Rattle.placement.specs.Filling.{fill, filled}
+use Rattle.placement.specs.HeldRuns.{runsDown}
 use Rattle.placement.proofs.RunCount.{filled-few}
 use Rattle.placement.proofs.RunTicks.{deadlines, filled-latest}
+use Rattle.placement.proofs.HeldLaws.{runs-length, runs-reverse}
 
 -- no deadline of a chain is after the outermost
 pub chain-deadlines : (jobs : List Job) → Chain jobs → All (λ job. job .deadline ≤ outermostDeadline jobs) jobs
@@ -42,9 +43,9 @@ module _ (jobs : List Job) (keeps : List Bool) (count : ℕ) where
       let ks = placesFrom (λ k. getD keeps k false) i (count - i) in
       omega (arith, filled-few js ks, from-length (λ k. getD jobs k noJob) i (count - i))
 
-  -- and so a run list that holds them counts
-  pub count-few : (i n : ℕ) (runs : List Run) → firstPlaces noRun runs n ≡ runsFrom i → n ≤ 2 * (count - i) - 1
-  count-few i n runs e = omega (arith, from-few i, sym (places-length (λ k. getD runs k noRun) n) ∙ ap length e)
+  -- and so the places that hold the runs of all jobs count
+  pub held-few : (at : ℕ → Run) (first end : ℕ) → runsDown at first end ≡ runsFrom 0 → end - first ≤ 2 * count - 1
+  held-few at first end e = omega (arith, from-few 0, sym (runs-length at first end) ∙ ap length e)
 
   -- the runs from place i on are those from the next, with job i filled in
   from-step : (i : ℕ) → i < count
@@ -60,10 +61,17 @@ module _ (jobs : List Job) (keeps : List Bool) (count : ℕ) where
       rw (from-step (i - 1) (omega arith), back, e, f)
 
   -- all jobs: the longest stretches of their placing, the latest first
-  pub from-all : Chain (firstPlaces noJob jobs count) → fits (firstPlaces noJob jobs count) (firstPlaces false keeps count) ≡ true
+  from-all : Chain (firstPlaces noJob jobs count) → fits (firstPlaces noJob jobs count) (firstPlaces false keeps count) ≡ true
       → runsFrom 0 ≡ latestFirst (placed (firstPlaces noJob jobs count) (firstPlaces false keeps count)) (outermostDeadline (firstPlaces noJob jobs count))
   unfolding runsFrom
   from-all c e =
       let js = firstPlaces noJob jobs count in
       rw (left-start (λ k. getD jobs k noJob) count, left-start (λ k. getD keeps k false) count)
       (sym (filled-latest js (firstPlaces false keeps count) c e (outermostDeadline js) (chain-deadlines js c)))
+
+  -- and so the places that hold them, in order, are the runs by start
+  pub held-placed : (at : ℕ → Run) (first end : ℕ) → Chain (firstPlaces noJob jobs count)
+      → fits (firstPlaces noJob jobs count) (firstPlaces false keeps count) ≡ true
+      → runsDown at first end ≡ runsFrom 0
+      → placesFrom at first (end - first) ≡ runsPlaced (firstPlaces noJob jobs count) (firstPlaces false keeps count)
+  held-placed at first end c f e = sym (runs-reverse at first end) ∙ ap reverse (e ∙ from-all c f)

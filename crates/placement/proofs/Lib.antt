@@ -7,6 +7,8 @@ pub mod RunOrder
 pub mod SampleLaws
 pub mod Permutations
 pub mod PlanLaws
+pub mod GapLaws
+pub mod HeldLaws
+pub mod RunColumns
 pub mod FillLaws
 pub mod FilledPlaces
-pub mod ColumnLaws

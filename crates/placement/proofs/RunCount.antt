@@ -32,7 +32,7 @@ length-most top [] = omega arith
 length-most top (run ∷ runs) = omega (arith, length-most (run .start) runs)
 
 -- a job of no ticks changes nothing
-fill-none : (i release : ℕ) (runs : List Run) (top : ℕ) → fill i release runs top 0 ≡ runs
+pub fill-none : (i release : ℕ) (runs : List Run) (top : ℕ) → fill i release runs top 0 ≡ runs
 unfolding fill
 fill-none i release [] top = rw zero-min
 fill-none i release (run ∷ runs) top = rw (zero-min, zero-sub, fill-none i release runs (run .start))

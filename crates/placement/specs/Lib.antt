@@ -2,4 +2,5 @@ pub mod Nesting
 pub mod Placing
 pub mod Outcomes
 pub mod Filling
+pub mod HeldRuns
 pub mod PlacingSamples

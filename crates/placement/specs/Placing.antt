@@ -68,3 +68,7 @@ stretches owner n = reverse (latestFirst owner n)
 abbrev pub outermostDeadline : List Job → ℕ
 outermostDeadline [] = 0
 outermostDeadline (job ∷ jobs) = job .deadline
+
+-- the runs of jobs under a keep list, by start
+abbrev pub runsPlaced : List Job → List Bool → List Run
+runsPlaced jobs keeps = stretches (placed jobs keeps) (outermostDeadline jobs)

@@ -1,29 +1,49 @@
-// The placing of work: which ticks each task gets, and the runs that they make. Jobs stand outermost first, and runs latest first.
+// The placing of work: which ticks each task gets, and the runs that they make. Jobs stand outermost first. The runs found so far stand by
+// start in three columns, and each job is filled into the gaps between them from its deadline downwards.
 ghost use mathlib.Core.Path.{_≡_};
 ghost use mathlib.Core.Bool.{true, false};
-ghost use mathlib.Core.List.{_++_, map, reverse};
-ghost use Prim.Native.Nat.{ℕ, _-_, _*_, _≤_, _<_, min};
-ghost use lib.ListN.{length, getD, drop};
+ghost use mathlib.Core.List.{map};
+ghost use Prim.Native.Nat.{ℕ, _+_, _-_, _*_, _≤_, _<_, min};
+ghost use lib.ListN.{length, getD};
 ghost use Rattle.base.specs.Limits.{maxTasks};
 ghost use Rattle.base.specs.Places.{firstPlaces};
+ghost use Rattle.base.specs.Lent.{writtenFront};
 ghost use Rattle.schedule.specs.Jobs.{noJob, Bounded};
-ghost use Rattle.schedule.specs.Runs.{noRun};
+ghost use Rattle.schedule.specs.Runs.{runAt};
 ghost use Rattle.choice.specs.Choice.{workWith, fits};
 ghost use Rattle.placement.specs.Nesting.{Chain};
-ghost use Rattle.placement.specs.Placing.{placed, latestFirst, outermostDeadline};
-ghost use Rattle.placement.specs.Filling.{fill, maxPlanRuns};
+ghost use Rattle.placement.specs.Placing.{runsPlaced};
+ghost use Rattle.placement.specs.Filling.{maxPlanRuns};
+ghost use Rattle.placement.specs.HeldRuns.{runsDown, runBelow, RunInserted, Held, jobFilled, FilledAbove, Room};
 use base::MAX_TASKS;
 use schedule::Job;
-use schedule::NO_RUN;
-use schedule::Run;
 
 // The most runs of a plan: 2n − 1 for n = 64 tasks.
 pub const MAX_PLAN_RUNS: usize = 127;
 
-// The runs of a plan, latest first: the first `count` places hold them.
-pub struct RunList {
-    pub count: usize,
-    pub runs: [Run; MAX_PLAN_RUNS],
+// The places of a column: each task may put one run in front of the others, and from the first of them on there are at most as many as a plan
+// may have.
+const PLACES: usize = MAX_TASKS + MAX_PLAN_RUNS;
+
+// Where the runs found so far stand by start: from place `first`, included, to `end`, excluded. Up to place `closed`, included, there is no
+// gap between them.
+struct Span {
+    pub first: usize,
+    pub closed: usize,
+    pub end: usize,
+}
+
+// Where they stand before the first job: there is none, and below it there is a place for each task.
+const NO_RUNS: Span = Span {
+    first: MAX_TASKS,
+    closed: MAX_TASKS,
+    end: MAX_TASKS,
+};
+
+// What filling a job into the gaps above runs leaves: the place after the last run, and the ticks of work that are still to be placed.
+struct GapsFilled {
+    pub end: usize,
+    pub left: u32,
 }
 
 // The work of a job: its mandatory ticks, plus its optional ticks where kept.
@@ -48,90 +68,144 @@ fn gap_ticks(bottom: u32, top: u32, work: u32) -> u32
     if work < room { work } else { room }
 }
 
-// The run of a task that has the last n ticks below `top`.
-fn run_below(top: u32, n: u32, task: u32) -> Run
+// The run of a task that has the last n ticks below `top`, put in at place `at` of columns whose runs end at place `end`.
+fn insert_run(
+    starts: &mut [u32],
+    ends: &mut [u32],
+    tasks: &mut [u32],
+    at: usize,
+    end: usize,
+    top: u32,
+    n: u32,
+    task: u32,
+)
     requires { ⌜ n ≤ top ⌝ }
-    ensures { λ r. ⌜ r ≡ record { start = top - n; end = top; task = task } ⌝ }
+    requires { ⌜ at ≤ end ⌝ }
+    requires { ⌜ (end < length (now starts)) × (end < length (now ends)) × (end < length (now tasks)) ⌝ }
+    ensures { λ _. ⌜ RunInserted at end (runBelow task top n) (runAt (now (starts .entry)) (now (ends .entry)) (now (tasks .entry))) (runAt (now (starts .exit)) (now (ends .exit)) (now (tasks .exit))) ⌝ }
 {
-    Run {
-        start: top - n,
-        end: top,
-        task,
-    }
+    columns::insert(starts, at, end, top - n);
+    columns::insert(ends, at, end, top);
+    columns::insert(tasks, at, end, task);
 }
 
-// One job filled into the gaps between runs, from its deadline downwards, each gap from its top.
-fn fill_job(list: RunList, job: Job, work: u32) -> RunList
-    requires { ⌜ list .count ≤ maxPlanRuns ⌝ }
-    requires { ⌜ length (fill (job .position) (job .release) (firstPlaces noRun (list .runs) (list .count)) (job .deadline) work) ≤ maxPlanRuns ⌝ }
-    ensures { λ r. ⌜ firstPlaces noRun (r .runs) (r .count) ≡ fill (job .position) (job .release) (firstPlaces noRun (list .runs) (list .count)) (job .deadline) work ⌝ }
+// One job filled into the gaps above runs, from its deadline downwards, each gap from its top, as long as work is left. The runs below place
+// `closed` are not looked at: there is no gap above them.
+fn fill_gaps(
+    starts: &mut [u32],
+    ends: &mut [u32],
+    tasks: &mut [u32],
+    span: Span,
+    job: Job,
+    work: u32,
+) -> GapsFilled
+    requires { ⌜ span .first ≤ maxTasks ⌝ }
+    requires { ⌜ Room (now starts) (now ends) (now tasks) ⌝ }
+    requires { ⌜ Held span (runAt (now starts) (now ends) (now tasks)) ⌝ }
+    requires { ⌜ length (jobFilled span job work (runAt (now starts) (now ends) (now tasks))) ≤ maxPlanRuns ⌝ }
+    ensures { λ r. ⌜ FilledAbove span job work (runAt (now (starts .entry)) (now (ends .entry)) (now (tasks .entry))) (r .end) (r .left) (runAt (now (starts .exit)) (now (ends .exit)) (now (tasks .exit))) ⌝ }
 {
-    let old = list.runs;
-    let count = list.count;
-    let task = job.position;
-    let mut runs = [NO_RUN; MAX_PLAN_RUNS];
-    let mut size: usize = 0;
+    let mut end = span.end;
+    let mut k = span.end;
     let mut top = job.deadline;
     let mut left = work;
-    let mut k: usize = 0;
-    while k < count {
-        let run = old[k];
-        let bottom = run.end;
-        let ticks = gap_ticks(bottom, top, left);
-        if 0 < ticks {
-            runs[size] = run_below(top, ticks, task);
-            size += 1;
+    while span.closed < k {
+        if left == 0 {
+            return GapsFilled { end, left };
         }
-        runs[size] = run;
-        size += 1;
-        top = run.start;
-        left -= ticks;
-        k += 1;
+        let bottom = ends[k - 1];
+        let n = gap_ticks(bottom, top, left);
+        if 0 < n {
+            insert_run(starts, ends, tasks, k, end, top, n, job.position);
+            end += 1;
+        }
+        top = starts[k - 1];
+        left -= n;
+        k -= 1;
     }
-    let ticks = gap_ticks(job.release, top, left);
-    if 0 < ticks {
-        runs[size] = run_below(top, ticks, task);
-        size += 1;
-    }
-    RunList { count: size, runs }
+    GapsFilled { end, left }
 }
 
-// The runs of the jobs that stand outermost first at the first `count` places, under their keep list.
-pub fn place(jobs: [Job; MAX_TASKS], count: usize, keeps: [bool; MAX_TASKS]) -> RunList
+// One job filled into all gaps: those above runs, and with the work that is left the one below all runs. Where that one gets ticks, every gap
+// above is full, and so there is none between the runs.
+fn fill_job(
+    starts: &mut [u32],
+    ends: &mut [u32],
+    tasks: &mut [u32],
+    span: Span,
+    job: Job,
+    work: u32,
+) -> Span
+    requires { ⌜ (0 < span .first) × (span .first ≤ maxTasks) ⌝ }
+    requires { ⌜ Room (now starts) (now ends) (now tasks) ⌝ }
+    requires { ⌜ Held span (runAt (now starts) (now ends) (now tasks)) ⌝ }
+    requires { ⌜ length (jobFilled span job work (runAt (now starts) (now ends) (now tasks))) ≤ maxPlanRuns ⌝ }
+    ensures { λ r. ⌜ (r .first ≤ span .first) × (span .first ≤ r .first + 1) ⌝ }
+    ensures { λ r. ⌜ Held r (runAt (now (starts .exit)) (now (ends .exit)) (now (tasks .exit))) ⌝ }
+    ensures { λ r. ⌜ runsDown (runAt (now (starts .exit)) (now (ends .exit)) (now (tasks .exit))) (r .first) (r .end) ≡ jobFilled span job work (runAt (now (starts .entry)) (now (ends .entry)) (now (tasks .entry))) ⌝ }
+{
+    let filled = fill_gaps(starts, ends, tasks, span, job, work);
+    let end = filled.end;
+    let first = span.first;
+    let closed = span.closed;
+    let top = if first < end {
+        starts[first]
+    } else {
+        job.deadline
+    };
+    let n = gap_ticks(job.release, top, filled.left);
+    if n == 0 {
+        return Span { first, closed, end };
+    }
+    let front = first - 1;
+    starts[front] = top - n;
+    ends[front] = top;
+    tasks[front] = job.position;
+    Span {
+        first: front,
+        closed: end - 1,
+        end,
+    }
+}
+
+// The runs of the jobs that stand outermost first at the first `count` places, under their keep list, put by start into three lent columns;
+// what stands beyond them is kept. The number of runs is returned.
+pub fn place(
+    jobs: [Job; MAX_TASKS],
+    count: usize,
+    keeps: [bool; MAX_TASKS],
+    starts: &mut [u32],
+    ends: &mut [u32],
+    tasks: &mut [u32],
+) -> usize
     requires { ⌜ count ≤ maxTasks ⌝ }
     requires { ⌜ ((k : ℕ) → k < count → Bounded (getD jobs k noJob)) ⌝ }
     requires { ⌜ Chain (firstPlaces noJob jobs count) ⌝ }
     requires { ⌜ fits (firstPlaces noJob jobs count) (firstPlaces false keeps count) ≡ true ⌝ }
-    ensures { λ r. ⌜ (r .count ≤ 2 * count - 1) × (firstPlaces noRun (r .runs) (r .count) ≡ latestFirst (placed (firstPlaces noJob jobs count) (firstPlaces false keeps count)) (outermostDeadline (firstPlaces noJob jobs count))) ⌝ }
+    requires { ⌜ (2 * count - 1 ≤ length (now starts)) × (2 * count - 1 ≤ length (now ends)) × (2 * count - 1 ≤ length (now tasks)) ⌝ }
+    ensures { λ r. ⌜ (r ≡ length (runsPlaced (firstPlaces noJob jobs count) (firstPlaces false keeps count))) × (now (starts .exit) ≡ writtenFront (map (λ run. run .start) (runsPlaced (firstPlaces noJob jobs count) (firstPlaces false keeps count))) (now (starts .entry))) × (now (ends .exit) ≡ writtenFront (map (λ run. run .end) (runsPlaced (firstPlaces noJob jobs count) (firstPlaces false keeps count))) (now (ends .entry))) × (now (tasks .exit) ≡ writtenFront (map (λ run. run .task) (runsPlaced (firstPlaces noJob jobs count) (firstPlaces false keeps count))) (now (tasks .entry))) ⌝ }
 {
-    let mut list = RunList {
-        count: 0,
-        runs: [NO_RUN; MAX_PLAN_RUNS],
-    };
+    let mut held_starts = [0u32; PLACES];
+    let mut held_ends = [0u32; PLACES];
+    let mut held_tasks = [0u32; PLACES];
+    let mut span = NO_RUNS;
     let mut i = count;
     while 0 < i {
         i -= 1;
         let job = jobs[i];
         let work = work_with(job, keeps[i]);
-        list = fill_job(list, job, work);
+        span = fill_job(
+            &mut held_starts,
+            &mut held_ends,
+            &mut held_tasks,
+            span,
+            job,
+            work,
+        );
     }
-    list
-}
-
-// The runs of a list that stands latest first, put by start into three lent columns; what stands beyond them is kept.
-pub fn put_runs(list: RunList, starts: &mut [u32], ends: &mut [u32], tasks: &mut [u32])
-    requires { ⌜ list .count ≤ maxPlanRuns ⌝ }
-    requires { ⌜ (list .count ≤ length (now starts)) × (list .count ≤ length (now ends)) × (list .count ≤ length (now tasks)) ⌝ }
-    ensures { λ _. ⌜ (now (starts .exit) ≡ map (λ run. run .start) (reverse (firstPlaces noRun (list .runs) (list .count))) ++ drop (list .count) (now (starts .entry))) × (now (ends .exit) ≡ map (λ run. run .end) (reverse (firstPlaces noRun (list .runs) (list .count))) ++ drop (list .count) (now (ends .entry))) × (now (tasks .exit) ≡ map (λ run. run .task) (reverse (firstPlaces noRun (list .runs) (list .count))) ++ drop (list .count) (now (tasks .entry))) ⌝ }
-{
-    let runs = list.runs;
-    let count = list.count;
-    let mut k: usize = 0;
-    while k < count {
-        let run = runs[count - 1 - k];
-        starts[k] = run.start;
-        ends[k] = run.end;
-        tasks[k] = run.task;
-        k += 1;
-    }
+    let runs = span.end - span.first;
+    columns::copy(&held_starts, span.first, runs, starts);
+    columns::copy(&held_ends, span.first, runs, ends);
+    columns::copy(&held_tasks, span.first, runs, tasks);
+    runs
 }

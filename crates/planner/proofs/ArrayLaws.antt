@@ -1,27 +1,25 @@
--- What the code holds of a table in arrays, and what it means: the jobs outermost first, their keep list, and the runs latest first.
+-- What the code holds of a table in arrays, and what it means: the jobs outermost first, and their keep list.
 use Prim.Native.Nat.{ℕ, _-_, _*_, _≤_, _<_}
 use mathlib.Core.Path.{_≡_, refl, sym, ap, ap₂, _∙_}
 use mathlib.Core.Bool.{Bool, true, false}
 use mathlib.Core.List.{List, _++_, map, reverse}
 use lib.Dec.{ltb}
-use lib.ListN.{length, getD, drop, length-map, length-reverse}
+use lib.ListN.{length, getD, drop}
 use borrow.Author.Tests.{ltb-false}
 use Rattle.base.specs.Tests.{or}
 use Rattle.base.specs.Places.{places, firstPlaces}
 use Rattle.base.specs.Lent.{writtenFront}
 use Rattle.base.proofs.TestLaws.{or-left, or-right}
-use Rattle.base.proofs.PlaceLaws.{places-length}
 use Rattle.table.specs.declared.Table.{Table}
 use Rattle.table.specs.Writing.{Legal}
 use Rattle.schedule.specs.declared.Job.{Job}
 use Rattle.schedule.specs.declared.Run.{Run}
 use Rattle.schedule.specs.Jobs.{noJob, Bounded}
 use Rattle.schedule.specs.Runnings.{Any, Distinct}
-use Rattle.schedule.specs.Runs.{noRun}
 use Rattle.schedule.proofs.JudgeLaws.{job-position, all-places}
 use Rattle.choice.specs.Choice.{fits, keepNone, chosen, kept, discarded}
 use Rattle.placement.specs.Nesting.{Chain, positions}
-use Rattle.placement.specs.Placing.{placed, latestFirst, outermostDeadline}
+use Rattle.placement.specs.Placing.{runsPlaced}
 use Rattle.nesting.specs.NestOrder.{jobsOutermostFirst}
 use Rattle.nesting.proofs.NestLaws.{nest-chain}
 use Rattle.nesting.proofs.OrderLaws.{all-outermost, any-outermost, outermost-bounded}
@@ -99,26 +97,20 @@ module _ (t : Table) (legal : Legal t) (jobs : List Job) (same : firstPlaces noJ
           rw (keeps-are, same, marks-length t legal none)
           refl
 
-      -- An array that holds the runs, latest first.
-      module _ (runs : List Run) (count : ℕ)
-          (latest : firstPlaces noRun runs count
-          ≡ latestFirst (placed (firstPlaces noJob jobs (t .count)) (firstPlaces false keeps (t .count))) (outermostDeadline (firstPlaces noJob jobs (t .count))))
-        where
-          runs-are : reverse (firstPlaces noRun runs count) ≡ planRuns t
-          unfolding planRuns
-          runs-are = ap reverse (latest ∙ ap₂ (λ (js : List Job) (ks : List Bool). latestFirst (placed js ks) (outermostDeadline js)) same keeps-are)
+      -- the runs placed
+      runs-are : runsPlaced (firstPlaces noJob jobs (t .count)) (firstPlaces false keeps (t .count)) ≡ planRuns t
+      unfolding planRuns
+      runs-are = ap₂ (λ (js : List Job) (ks : List Bool). runsPlaced js ks) same keeps-are
 
-          runs-count : count ≡ length (planRuns t)
-          runs-count = sym (ap length (sym runs-are) ∙ (length-reverse (firstPlaces noRun runs count) ∙ places-length (λ k. getD runs k noRun) count))
+      -- a column of them put
+      pub array-column : (part : Run → ℕ) (lent : List ℕ)
+          → writtenFront (map part (runsPlaced (firstPlaces noJob jobs (t .count)) (firstPlaces false keeps (t .count)))) lent ≡ writtenFront (map part (planRuns t)) lent
+      array-column part lent = ap (λ (runs : List Run). writtenFront (map part runs) lent) runs-are
 
-          -- the columns put
-          pub array-column : (part : Run → ℕ) (lent : List ℕ)
-              → map part (reverse (firstPlaces noRun runs count)) ++ drop count lent ≡ writtenFront (map part (planRuns t)) lent
-          array-column part lent = rw (runs-are, length-map (planRuns t) part, runs-count) refl
-
-          -- the reply
-          pub array-reply : (k d : ℕ) → k ≡ kept (firstPlaces noJob jobs (t .count)) (chosen (firstPlaces noJob jobs (t .count)))
-              → d ≡ discarded (firstPlaces noJob jobs (t .count)) (chosen (firstPlaces noJob jobs (t .count)))
-              → _≡_ {A = Planned} (record { number = 0; place = 0; kept = k; discarded = d; runs = count }) (planOf t)
-          unfolding planOf keepList
-          array-reply k d e f = rw (e, f, runs-count, same) refl
+      -- the reply
+      pub array-reply : (runs k d : ℕ) → runs ≡ length (runsPlaced (firstPlaces noJob jobs (t .count)) (firstPlaces false keeps (t .count)))
+          → k ≡ kept (firstPlaces noJob jobs (t .count)) (chosen (firstPlaces noJob jobs (t .count)))
+          → d ≡ discarded (firstPlaces noJob jobs (t .count)) (chosen (firstPlaces noJob jobs (t .count)))
+          → _≡_ {A = Planned} (record { number = 0; place = 0; kept = k; discarded = d; runs = runs }) (planOf t)
+      unfolding planOf keepList
+      array-reply runs k d n e f = rw (n ∙ ap length runs-are, e, f, same) refl

@@ -15,7 +15,7 @@ use Rattle.schedule.specs.declared.Run.{Run}
 use Rattle.schedule.specs.Jobs.{jobAt}
 use Rattle.schedule.specs.Ticks.{one}
 use Rattle.choice.specs.Choice.{windowTicks, chosen, kept, discarded}
-use Rattle.placement.specs.Placing.{placed, stretches, outermostDeadline}
+use Rattle.placement.specs.Placing.{runsPlaced}
 use Rattle.nesting.specs.NestOrder.{nestOrder, jobsOutermostFirst}
 use Rattle.planner.specs.declared.Planned.{Planned}
 
@@ -51,7 +51,7 @@ planMarks t = places (markAt (jobsOutermostFirst t) (keepList t)) (t .count)
 
 -- the runs of a plan, by start
 unfoldable pub planRuns : Table → List Run
-planRuns t = stretches (placed (jobsOutermostFirst t) (keepList t)) (outermostDeadline (jobsOutermostFirst t))
+planRuns t = runsPlaced (jobsOutermostFirst t) (keepList t)
 
 -- the columns of runs
 abbrev pub startsOf : List Run → List ℕ

@@ -123,10 +123,8 @@ fn put_plan(
     let count = table.count as usize;
     let choice = choice::choose(jobs, count);
     let keeps = choice.keeps;
-    let list = placement::place(jobs, count, keeps);
-    let runs = list.count;
     put_marks(jobs, keeps, count, marks);
-    placement::put_runs(list, starts, ends, tasks);
+    let runs = placement::place(jobs, count, keeps, starts, ends, tasks);
     Planned {
         number: 0,
         place: 0,

@@ -1,6 +1,5 @@
 -- `planner::put_plan` meets its contract: the calls follow one another, and what each array holds is what the definitions say.
 use mathlib.Core.Path.{_∙_}
-use native.Mathlib.Omega.{arith}
 use borrow.Author.Needs.{needs}
 use lib.ListN.{length}
 use Rattle.table.proofs.FileLaws.{legal-count}
@@ -25,22 +24,9 @@ choose-requires c κs =
       ),
     )
 
-place-requires : tie.Need-place-requires
-place-requires c κs =
-    let start = c .before .before .before .before .before .before .before in (
-      legal-count (start .pre .0) .1,
-      (
-        array-bounded (start .args .table) (start .pre .0) (start .args .jobs) (start .pre .1 .0),
-        (
-          array-chain (start .args .table) (start .pre .0) (start .args .jobs) (start .pre .1 .0),
-          array-fits (start .args .table) (start .pre .0) (start .args .jobs) (start .pre .1 .0) (start .pre .1 .1 .0) (c .before .choose .result .keeps) (c .before .choose .ensures .0),
-        ),
-      ),
-    )
-
 put-marks-requires : tie.Need-put-marks-requires
 put-marks-requires c κs =
-    let start = c .before .before .before .before .before .before .before .before .before in (
+    let start = c .before .before .before .before .before .before .before .before in (
       legal-count (start .pre .0) .1,
       (
         room start .marks-room,
@@ -54,12 +40,23 @@ put-marks-requires c κs =
       ),
     )
 
-put-runs-requires : tie.Need-put-runs-requires
-put-runs-requires c κs =
-    let start = c .before .before .before .before .before .before .before .before .before .before .before .before .before .before .before in
-    let few = c .before .before .before .before .before .before .before .place .ensures .0 in
-    let long = room start in
-    (omega (arith, legal-count (start .pre .0)), (omega arith, omega arith, omega arith))
+place-requires : tie.Need-place-requires
+place-requires c κs =
+    let start = c .before .before .before .before .before .before .before .before .before .before .before .before .before .before in
+    let choice = c .before .before .before .before .before .before .before .before .choose in
+    let long = room start in (
+      legal-count (start .pre .0) .1,
+      (
+        array-bounded (start .args .table) (start .pre .0) (start .args .jobs) (start .pre .1 .0),
+        (
+          array-chain (start .args .table) (start .pre .0) (start .args .jobs) (start .pre .1 .0),
+          (
+            array-fits (start .args .table) (start .pre .0) (start .args .jobs) (start .pre .1 .0) (start .pre .1 .1 .0) (choice .result .keeps) (choice .ensures .0),
+            (long .starts-room, long .ends-room, long .tasks-room),
+          ),
+        ),
+      ),
+    )
 
 same-length : tie.Need-same-length
 same-length c = search needs
@@ -75,22 +72,17 @@ same-length-4 c = search needs
 
 returns : tie.Need-returns
 returns c =
-    let start = c .before .before .before .before .before .before .before .before .before .before .before .before .before .before .before .before .before .before .before .before .before .before in
-    let choice = c .before .before .before .before .before .before .before .before .before .before .before .before .before .before .before .before .choose in
-    let list = c .before .before .before .before .before .before .before .before .before .before .before .before .before .before .place in
-    let put = c .before .before .before .before .before .before .put-runs .ensures in
-    let reply =
-    array-reply (start .args .table) (start .pre .0) (start .args .jobs) (start .pre .1 .0) (start .pre .1 .1 .0) (choice .result .keeps) (choice .ensures .0)
-    (list .result .runs) (list .result .count) (list .ensures .1) (choice .result .kept) (choice .result .discarded) in
-    let column =
-    array-column (start .args .table) (start .pre .0) (start .args .jobs) (start .pre .1 .0) (start .pre .1 .1 .0) (choice .result .keeps) (choice .ensures .0)
-    (list .result .runs) (list .result .count) (list .ensures .1) in
+    let start = c .before .before .before .before .before .before .before .before .before .before .before .before .before .before .before .before .before .before .before .before .before in
+    let choice = c .before .before .before .before .before .before .before .before .before .before .before .before .before .before .before .choose in
+    let placed = c .before .before .before .before .before .before .place in
+    let reply = array-reply (start .args .table) (start .pre .0) (start .args .jobs) (start .pre .1 .0) (start .pre .1 .1 .0) (choice .result .keeps) (choice .ensures .0) in
+    let column = array-column (start .args .table) (start .pre .0) (start .args .jobs) (start .pre .1 .0) (start .pre .1 .1 .0) (choice .result .keeps) (choice .ensures .0) in
     let front = array-marks (start .args .table) (start .pre .0) (start .args .jobs) (start .pre .1 .0) (start .pre .1 .1 .0) (choice .result .keeps) (choice .ensures .0) in (
-      reply (choice .ensures .1) (choice .ensures .2),
+      reply (placed .result) (choice .result .kept) (choice .result .discarded) (placed .ensures .0) (choice .ensures .1) (choice .ensures .2),
       c .before .before .before .before .before .before .before .before .before .before .before .before .put-marks .ensures ∙ front (start .args .marks .now),
-      put .0 ∙ column (λ run. run .start) (start .args .starts .now),
-      put .1 ∙ column (λ run. run .end) (start .args .ends .now),
-      put .2 ∙ column (λ run. run .task) (start .args .tasks .now),
+      placed .ensures .1 ∙ column (λ run. run .start) (start .args .starts .now),
+      placed .ensures .2 ∙ column (λ run. run .end) (start .args .ends .now),
+      placed .ensures .3 ∙ column (λ run. run .task) (start .args .tasks .now),
     )
 
 pub put-plan-spec : {M : Type 1} → statement M
@@ -99,9 +91,8 @@ put-plan-spec =
     (tie.spec
     cast-count
     choose-requires
-    place-requires
     put-marks-requires
-    put-runs-requires
+    place-requires
     same-length
     same-length-2
     same-length-3

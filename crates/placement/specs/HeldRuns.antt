@@ -1,0 +1,64 @@
+-- The runs found so far, as the code holds them while jobs are filled in: by start, in columns, at the places from a first to an end.
+use Prim.Native.Nat.{ℕ, zero, suc, _+_, _-_, _≤_, _<_}
+use mathlib.Core.Path.{_≡_}
+use mathlib.Core.List.{List, [], _∷_, _++_}
+use lib.ListN.{length}
+use Rattle.base.specs.Limits.{maxTasks}
+use Rattle.schedule.specs.declared.Job.{Job}
+use Rattle.schedule.specs.declared.Run.{Run}
+use Rattle.placement.specs.declared.Span.{Span}
+use Rattle.placement.specs.Filling.{fill, maxPlanRuns}
+
+-- the n runs that stand from place `low` on, the latest first
+unfoldable pub downFrom : (ℕ → Run) → ℕ → ℕ → List Run
+downFrom at low zero = []
+downFrom at low (suc n) = at (low + n) ∷ downFrom at low n
+
+-- the runs that stand from place `first`, included, to `end`, excluded, the latest first
+unfoldable pub runsDown : (ℕ → Run) → ℕ → ℕ → List Run
+runsDown at first end = downFrom at first (end - first)
+
+-- there is no gap above any of the runs, which stand latest first; the first gap is measured from `top`
+abbrev pub Closed : ℕ → List Run → Type 0
+Closed top [] = Unit {0}
+Closed top (run ∷ runs) = (top ≤ run .end) × Closed (run .start) runs
+
+-- where the gap below all runs ends: the start of the last of them, and `top` where there is none
+unfoldable pub bottomOf : ℕ → List Run → ℕ
+bottomOf top [] = top
+bottomOf top (run ∷ runs) = bottomOf (run .start) runs
+
+-- the run of task i that has the last n ticks below `top`
+abbrev pub runBelow : ℕ → ℕ → ℕ → Run
+runBelow i top n = record { start = top - n; end = top; task = i }
+
+-- a run was put in at place `at`: what stood from there to `end`, excluded, stands one place higher
+pub record RunInserted (at end : ℕ) (run : Run) (old new : ℕ → Run) : Type 0 where
+  pub below : (j : ℕ) → j < at → new j ≡ old j
+  pub here : new at ≡ run
+  pub above : (j : ℕ) → at ≤ j → j < end → new (suc j) ≡ old j
+
+-- the runs of a span stand so: place `closed` is one of theirs, unless there is none, and up to it, included, there is no gap between them
+pub record Held (span : Span) (at : ℕ → Run) : Type 0 where
+  pub low : span .first ≤ span .closed
+  pub high : span .closed ≤ span .end
+  pub empty : span .end ≤ span .closed → span .end ≤ span .first
+  pub unbroken : Closed (at (span .closed) .start) (runsDown at (span .first) (span .closed))
+
+-- the runs of a span, latest first, once w ticks of a job are filled in
+abbrev pub jobFilled : Span → Job → ℕ → (ℕ → Run) → List Run
+jobFilled span job w at = fill (job .position) (job .release) (runsDown at (span .first) (span .end)) (job .deadline) w
+
+-- w ticks of a job are filled into the gaps above the runs of a span: the runs now end at place `end`, and the ticks that are left go below
+-- them; where some are left, no gap above a run is
+pub record FilledAbove (span : Span) (job : Job) (w : ℕ) (old : ℕ → Run) (end left : ℕ) (new : ℕ → Run) : Type 0 where
+  pub held : Held (record { first = span .first; closed = span .closed; end = end }) new
+  pub joined : runsDown new (span .first) end
+      ++ fill (job .position) (job .release) [] (bottomOf (job .deadline) (runsDown new (span .first) end)) left
+      ≡ jobFilled span job w old
+  pub closed : 0 < left → Closed (job .deadline) (runsDown new (span .first) end)
+
+-- the columns have the places that they need: one for each of the most tasks below the runs, and then one for each of the most runs
+abbrev pub Room : List ℕ → List ℕ → List ℕ → Type 0
+Room starts ends tasks =
+    (length starts ≡ maxTasks + maxPlanRuns) × (length ends ≡ maxTasks + maxPlanRuns) × (length tasks ≡ maxTasks + maxPlanRuns)
