@@ -19,7 +19,7 @@ use base::MAX_TASKS;
 use schedule::Job;
 
 // The most runs of a plan: 2n − 1 for n = 64 tasks.
-pub const MAX_PLAN_RUNS: usize = 127;
+pub const MAX_PLAN_RUNS: usize = 2 * MAX_TASKS - 1;
 
 // The places of a column: each task may put one run in front of the others, and from the first of them on there are at most as many as a plan
 // may have.

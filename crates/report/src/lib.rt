@@ -8,13 +8,11 @@ ghost use Rattle.report.specs.Putting.{Put};
 ghost use Rattle.report.specs.Printing.{decimal, fields, line, dropWord, dropLines, runWord, runLines, planLines, refusalText, printLength, printedOver};
 use base::MAX_TASKS;
 use bits::Cursor;
+use placement::MAX_PLAN_RUNS;
 use table::COUNT_WIDTH;
 
 // No text is longer; definitions say maxText.
 pub const MAX_TEXT: usize = 13_632;
-
-// The most runs of a plan.
-const PLAN_RUNS: usize = 2 * MAX_TASKS - 1;
 
 // The bytes between two fields and at the end of a line, and that of the digit 0.
 const SPACE: u8 = 32;
@@ -172,9 +170,9 @@ pub fn print(file: &[u8], out: &mut [u8]) -> usize
         return 0;
     }
     let mut marks = [0u8; MAX_TASKS];
-    let mut starts = [0u32; PLAN_RUNS];
-    let mut ends = [0u32; PLAN_RUNS];
-    let mut tasks = [0u32; PLAN_RUNS];
+    let mut starts = [0u32; MAX_PLAN_RUNS];
+    let mut ends = [0u32; MAX_PLAN_RUNS];
+    let mut tasks = [0u32; MAX_PLAN_RUNS];
     let reply = planner::plan(file, &mut marks, &mut starts, &mut ends, &mut tasks);
     if reply.number != 0 {
         return put_refusal(out, reply.number, reply.place);

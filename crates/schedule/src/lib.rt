@@ -33,19 +33,12 @@ pub const NO_JOB: Job = Job {
     optional: 0,
 };
 
-// A run: its first tick, the tick after its last, and the task's position.
+// A run: its first tick, the tick after its last, and the task's position. Definitions speak of runs; code has them in three columns.
 pub struct Run {
     pub start: u32,
     pub end: u32,
     pub task: u32,
 }
-
-// A run of which every number is 0: what stands at a place that holds no run.
-pub const NO_RUN: Run = Run {
-    start: 0,
-    end: 0,
-    task: 0,
-};
 
 // The reply of judging: the refusal's number and place; or 0, the verdict, and with a yes the counts kept and discarded.
 #[repr(C)]
