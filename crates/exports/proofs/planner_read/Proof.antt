@@ -1,9 +1,8 @@
 -- `exports::planner_read` meets its contract: the parts of the reply of `reading::read`.
-use mathlib.Core.Path.{ap}
+use mathlib.Core.Path.{ap, _∙_}
 use borrow.Author.Needs.{needs}
 use Rattle.table.specs.declared.Reading.{Reading}
 use Rattle.table.specs.Answers.{numberOf, placeOf}
-use Rattle.exports.specs.declared.TableRead.{TableRead}
 use Rattle.exports.specs.FileRead.{tableRead}
 use Rattle.exports.proofs.planner_read.Statement.{statement}
 use Rattle.exports.proofs.planner_read.Tie as tie
@@ -20,8 +19,11 @@ place-requires c κs = search needs
 returns : tie.Need-returns
 unfolding tableRead
 returns c =
-    rw (c .before .before .number .ensures, c .before .place .ensures)
-    (ap {B = TableRead} (λ (r : Reading). record { number = numberOf (r .answer); place = placeOf (r .answer); table = r .table }) (c .before .before .before .read .ensures))
+    let read = c .before .before .before .read .ensures in
+    let number = c .before .before .number .ensures ∙ ap (λ (r : Reading). numberOf (r .answer)) read in
+    let place = c .before .place .ensures ∙ ap (λ (r : Reading). placeOf (r .answer)) read in
+    let table = ap (λ (r : Reading). r .table) read in
+    λ i. record { number = number i; place = place i; table = table i }
 
 pub planner-read-spec : {M : Type 1} → statement M
 planner-read-spec = tie.close (tie.spec read-requires number-requires place-requires returns)
