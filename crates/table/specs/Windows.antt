@@ -24,10 +24,6 @@ contains a b = and (leb (a .release) (b .release)) (leb (b .deadline) (a .deadli
 unfoldable pub nested : Task → Task → Bool
 nested a b = or (contains a b) (contains b a)
 
--- the window at place j of a column of release frames and a column of deadline frames, as a task of no ticks
-abbrev pub windowAt : List ℕ → List ℕ → ℕ → Task
-windowAt releases deadlines j = record { release = getD releases j 0; deadline = getD deadlines j 0; mandatory = 0; optional = 0 }
-
 -- the window at position k is not nested with that of some earlier position
 unfoldable pub crosses : Table → ℕ → Bool
 crosses t k = someBelow (λ j. not (nested (taskAt t j) (taskAt t k))) k
@@ -37,3 +33,8 @@ unfoldable pub windowAnswer : Table → Answer
 windowAnswer t =
     pick (ltb (lowest (λ k. reversed (taskAt t k)) (t .count)) (t .count)) (Window (lowest (λ k. reversed (taskAt t k)) (t .count)))
     (pick (ltb (lowest (crosses t) (t .count)) (t .count)) (Nesting (lowest (crosses t) (t .count))) Accepted)
+
+-- what the code holds of windows that were passed: the one at place j of a column of release frames and a column of deadline frames, as a task of
+-- no ticks
+abbrev pub windowAt : List ℕ → List ℕ → ℕ → Task
+windowAt releases deadlines j = record { release = getD releases j 0; deadline = getD deadlines j 0; mandatory = 0; optional = 0 }
