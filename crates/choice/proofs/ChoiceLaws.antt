@@ -2,19 +2,19 @@
 use Prim.Native.Nat.{ℕ, zero, suc, _≤_, _<_}
 use mathlib.Core.Path.{_≡_, refl, sym, ap}
 use mathlib.Core.Logic.{_⊎_, inl, inr}
-use mathlib.Core.List.{List, [], _∷_, _++_, map, List·Memᴰ, List·Memᴰ·head, List·Memᴰ·tail, Memᴰ·append-left, Memᴰ·append-right, Memᴰ·map}
+use mathlib.Core.List.{List, [], _∷_, _++_, map, List·Memᴰ, List·Memᴰ·head, Memᴰ·append-left, Memᴰ·append-right, Memᴰ·map}
 use mathlib.Core.Bool.{Bool, true, false}
 use native.Mathlib.Omega.{arith}
 use lib.ListN.{length, getD}
 use borrow.Author.Tests.{ltb-true}
-use Rattle.base.specs.Tests.{and}
-use Rattle.base.proofs.TestLaws.{both-absurd, and-left, and-right, pick-cases, and-not-second}
+use Rattle.base.proofs.TestLaws.{both-absurd, pick-cases}
 use Rattle.schedule.specs.declared.Job.{Job}
 use Rattle.schedule.specs.Jobs.{noJob, counts}
-use Rattle.choice.specs.Choice.{fits, keepLists, keepNone, keptTicks, discardMarks, lexLess, discardedWorth, keptWorth}
-use Rattle.choice.specs.Choice.{key, better, best, chosenBy, KeepsFirst, Taken, counted, chosen, ZeroKept}
+use Rattle.choice.specs.Choice.{worksFit, worksOf, fits, keepLists, keepNone, keptTicks, discardMarks, discardedWorth, keptWorth}
+use Rattle.choice.specs.Choice.{key, chosenBy, KeepsFirst, Taken, counted, chosen, ZeroKept}
 use Rattle.choice.specs.Rows.{outermostTicks, allWorth, row, backtrack, bestWorth, byRows}
-use Rattle.choice.proofs.OrderLaws.{LexAtMost, atMost-refl, atMost-trans, less→atMost, notLess→atMost}
+use Rattle.choice.proofs.OrderLaws.{LexAtMost, atMost-refl}
+use Rattle.choice.proofs.BestLaws.{best-fits, best-others}
 use Rattle.choice.proofs.FitLaws.{fits-tail, fits-length, none-fits, ticks-outermost, worth-split}
 use Rattle.choice.proofs.RowLaws.{Keeps, row-least, backtrack-keeps, backtrack-first, greatest-is, backtrack-zero}
 
@@ -72,7 +72,7 @@ atMost-first (false ∷ a) (false ∷ b) n p = first-cons false a b (atMost-firs
 
 -- every list that fits is among the keep lists
 among : (jobs : List Job) (keeps : List Bool) → fits jobs keeps ≡ true → List·Memᴰ keeps (keepLists jobs)
-unfolding fits keepLists
+unfolding worksFit worksOf keepLists
 among [] [] e = List·Memᴰ·head refl
 among [] (keep ∷ keeps) e = both-absurd false e refl
 among (job ∷ jobs) [] e = both-absurd false e refl
@@ -124,56 +124,13 @@ module _ (worth : Job → ℕ) where
   pub taken-unique : (jobs : List Job) (a b : List Bool) → Taken worth jobs a → Taken worth jobs b → a ≡ b
   taken-unique jobs a b p q = best-unique jobs a b (taken-best jobs a p) (taken-best jobs b q)
 
-  -- the better of two lists fits
-  better-fits : (jobs : List Job) (a b : List Bool) → fits jobs a ≡ true → fits jobs (better worth jobs a b) ≡ true
-  unfolding better
-  better-fits jobs a b e =
-      pick-cases (λ c. fits jobs c ≡ true) (and (fits jobs b) (lexLess (key worth jobs b) (key worth jobs a)))
-      (λ s. and-left (fits jobs b) (lexLess (key worth jobs b) (key worth jobs a)) s) (λ s. e)
-
-  -- its key is at most that of the first
-  better-first : (jobs : List Job) (a b : List Bool) → LexAtMost (key worth jobs (better worth jobs a b)) (key worth jobs a)
-  unfolding better
-  better-first jobs a b =
-      pick-cases (λ c. LexAtMost (key worth jobs c) (key worth jobs a)) (and (fits jobs b) (lexLess (key worth jobs b) (key worth jobs a)))
-      (λ s. less→atMost _ _ (and-right (fits jobs b) (lexLess (key worth jobs b) (key worth jobs a)) s))
-      (λ s. atMost-refl (key worth jobs a))
-
-  -- and, where the second fits, at most that of the second
-  better-second : (jobs : List Job) (a b : List Bool) → fits jobs b ≡ true → LexAtMost (key worth jobs (better worth jobs a b)) (key worth jobs b)
-  unfolding better
-  better-second jobs a b e =
-      pick-cases (λ c. LexAtMost (key worth jobs c) (key worth jobs b)) (and (fits jobs b) (lexLess (key worth jobs b) (key worth jobs a)))
-      (λ s. atMost-refl (key worth jobs b))
-      (λ s. notLess→atMost _ _ (and-not-second (fits jobs b) (lexLess (key worth jobs b) (key worth jobs a)) s e))
-
-  -- the best of a list and of some others fits
-  best-fits : (jobs : List Job) (a : List Bool) (bs : List (List Bool)) → fits jobs a ≡ true → fits jobs (best worth jobs a bs) ≡ true
-  unfolding best
-  best-fits jobs a [] e = e
-  best-fits jobs a (b ∷ bs) e = best-fits jobs (better worth jobs a b) bs (better-fits jobs a b e)
-
-  -- its key is at most that of the first
-  best-first : (jobs : List Job) (a : List Bool) (bs : List (List Bool)) → LexAtMost (key worth jobs (best worth jobs a bs)) (key worth jobs a)
-  unfolding best
-  best-first jobs a [] = atMost-refl (key worth jobs a)
-  best-first jobs a (b ∷ bs) = atMost-trans _ _ _ (best-first jobs (better worth jobs a b) bs) (better-first jobs a b)
-
-  -- and at most that of every other that fits
-  best-others : (jobs : List Job) (a : List Bool) (bs : List (List Bool)) (b : List Bool) → List·Memᴰ b bs → fits jobs b ≡ true
-      → LexAtMost (key worth jobs (best worth jobs a bs)) (key worth jobs b)
-  unfolding best
-  best-others jobs a bs b (List·Memᴰ·head {xs = xs} q) e =
-      rw (← q) (atMost-trans _ _ _ (best-first jobs (better worth jobs a b) xs) (better-second jobs a b e))
-  best-others jobs a bs b (List·Memᴰ·tail {x = x} {xs = xs} m) e = best-others jobs (better worth jobs a x) xs b m e
-
   -- the chosen list is best
   pub chosen-best : (jobs : List Job) → fits jobs (keepNone jobs) ≡ true → Best jobs (chosenBy worth jobs)
   unfolding chosenBy
   chosen-best jobs none =
       record {
-        fit = best-fits jobs _ (keepLists jobs) none;
-        least = λ other e. best-others jobs _ (keepLists jobs) other (among jobs other e) e;
+        fit = best-fits (fits jobs) (key worth jobs) _ (keepLists jobs) none;
+        least = λ other e. best-others (fits jobs) (key worth jobs) _ (keepLists jobs) other (among jobs other e) e;
       }
 
   -- The choice meets the rules: it fits, no list that fits discards less, of those that discard as much none keeps fewer ticks, and of those

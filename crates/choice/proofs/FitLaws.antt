@@ -4,16 +4,15 @@ use mathlib.Core.Path.{_≡_, refl, ap}
 use mathlib.Core.List.{List, [], _∷_}
 use mathlib.Core.Bool.{Bool, true, false, not}
 use native.Mathlib.Omega.{arith}
-use lib.Dec.{leb}
 use lib.ListN.{length}
-use borrow.Author.Tests.{leb-true, le-leb}
 use Rattle.base.specs.Tests.{and}
-use Rattle.base.proofs.TestLaws.{cases, both-absurd, and-true, and-left, and-right}
+use Rattle.base.proofs.TestLaws.{cases, both-absurd}
 use Rattle.schedule.specs.declared.Job.{Job}
 use Rattle.schedule.specs.Jobs.{workOf, counts}
 use Rattle.schedule.specs.Ticks.{one}
-use Rattle.choice.specs.Choice.{windowTicks, workWith, totalWork, fits, keepNone, keptTicks, discardedWorth, keptWorth, kept, discarded}
+use Rattle.choice.specs.Choice.{windowTicks, workWith, total, worksFit, worksOf, totalWork, fits, keepNone, keptTicks, discardedWorth, keptWorth, kept, discarded}
 use Rattle.choice.specs.Rows.{mandatorySum, outermostTicks, allWorth}
+use Rattle.choice.proofs.WorkLaws.{NoMore, SameWindows, works-head, works-tail, works-cons, works-less, works-windows}
 
 -- the work under a Bool mark is the work under the mark as a number
 pub work-mark : (job : Job) (keep : Bool) → workOf job (one keep) ≡ workWith job keep
@@ -23,25 +22,23 @@ work-mark job false = refl
 -- where a list fits, the first window has room for all work
 pub fits-head : (job : Job) (jobs : List Job) (keep : Bool) (keeps : List Bool) → fits (job ∷ jobs) (keep ∷ keeps) ≡ true
     → workWith job keep + totalWork jobs keeps ≤ windowTicks job
-unfolding fits
-fits-head job jobs keep keeps e =
-    leb-true _ _ (and-left (leb (workWith job keep + totalWork jobs keeps) (windowTicks job)) _ e)
+unfolding worksOf
+fits-head job jobs keep keeps e = works-head job jobs (workWith job keep) (worksOf jobs keeps) e
 
 -- and the rest of the list fits
 pub fits-tail : (job : Job) (jobs : List Job) (keep : Bool) (keeps : List Bool) → fits (job ∷ jobs) (keep ∷ keeps) ≡ true → fits jobs keeps ≡ true
-unfolding fits
-fits-tail job jobs keep keeps e = and-right (leb (workWith job keep + totalWork jobs keeps) (windowTicks job)) (fits jobs keeps) e
+unfolding worksOf
+fits-tail job jobs keep keeps e = works-tail job jobs (workWith job keep) (worksOf jobs keeps) e
 
 -- a list fits where the first window has room for all work and the rest fits
 pub fits-cons : (job : Job) (jobs : List Job) (keep : Bool) (keeps : List Bool) → workWith job keep + totalWork jobs keeps ≤ windowTicks job
     → fits jobs keeps ≡ true → fits (job ∷ jobs) (keep ∷ keeps) ≡ true
-unfolding fits
-fits-cons job jobs keep keeps h e =
-    and-true (leb (workWith job keep + totalWork jobs keeps) (windowTicks job)) (fits jobs keeps) (le-leb _ _ h) e
+unfolding worksOf
+fits-cons job jobs keep keeps h e = works-cons job jobs (workWith job keep) (worksOf jobs keeps) h e
 
 -- a list that fits has one mark a job
 pub fits-length : (jobs : List Job) (keeps : List Bool) → fits jobs keeps ≡ true → length keeps ≡ length jobs
-unfolding fits
+unfolding worksFit worksOf
 fits-length [] [] e = refl
 fits-length [] (keep ∷ keeps) e = both-absurd false e refl
 fits-length (job ∷ jobs) [] e = both-absurd false e refl
@@ -49,7 +46,7 @@ fits-length (job ∷ jobs) (keep ∷ keeps) e = ap suc (fits-length jobs keeps (
 
 -- all work is the mandatory ticks and the kept optional ones
 pub work-split : (jobs : List Job) (keeps : List Bool) → fits jobs keeps ≡ true → totalWork jobs keeps ≡ mandatorySum jobs + keptTicks jobs keeps
-unfolding fits totalWork keptTicks mandatorySum
+unfolding worksFit worksOf total keptTicks mandatorySum
 work-split [] [] e = refl
 work-split [] (keep ∷ keeps) e = both-absurd false e refl
 work-split (job ∷ jobs) [] e = both-absurd false e refl
@@ -76,7 +73,7 @@ none-ticks (job ∷ jobs) = omega (arith, none-ticks jobs)
 
 -- if any list fits, the one that keeps nothing does
 pub none-fits : (jobs : List Job) (keeps : List Bool) → fits jobs keeps ≡ true → fits jobs (keepNone jobs) ≡ true
-unfolding fits keptTicks
+unfolding worksFit worksOf keptTicks
 none-fits [] [] e = refl
 none-fits [] (keep ∷ keeps) e = both-absurd false e refl
 none-fits (job ∷ jobs) [] e = both-absurd false e refl
@@ -86,7 +83,7 @@ none-fits (job ∷ jobs) (keep ∷ keeps) e =
 
 -- no list that fits keeps more than the ticks of the outermost window
 pub ticks-outermost : (jobs : List Job) (keeps : List Bool) → fits jobs keeps ≡ true → keptTicks jobs keeps ≤ outermostTicks jobs
-unfolding fits keptTicks
+unfolding worksFit worksOf keptTicks
 ticks-outermost [] keeps e = omega arith
 ticks-outermost (job ∷ jobs) [] e = omega arith
 ticks-outermost (job ∷ jobs) (keep ∷ keeps) e = omega (arith, fits-room job jobs keep keeps e)
@@ -94,7 +91,7 @@ ticks-outermost (job ∷ jobs) (keep ∷ keeps) e = omega (arith, fits-room job 
 -- what is discarded and what is kept are all worth
 pub worth-split : (worth : Job → ℕ) (jobs : List Job) (keeps : List Bool) → fits jobs keeps ≡ true
     → discardedWorth worth jobs keeps + keptWorth worth jobs keeps ≡ allWorth worth jobs
-unfolding fits discardedWorth keptWorth allWorth
+unfolding worksFit worksOf discardedWorth keptWorth allWorth
 worth-split worth [] [] e = refl
 worth-split worth [] (keep ∷ keeps) e = both-absurd false e refl
 worth-split worth (job ∷ jobs) [] e = both-absurd false e refl
@@ -114,3 +111,40 @@ pub discarded-cons : (job : Job) (jobs : List Job) (keep : Bool) (keeps : List B
 unfolding discardedWorth
 discarded-cons job jobs true keeps = cases (counts job) (λ e. rw e) (λ e. rw e)
 discarded-cons job jobs false keeps = cases (counts job) (λ e. rw e) (λ e. rw e)
+
+-- jobs with the same windows and lesser lengths, one by one
+abbrev pub Shorter : List Job → List Job → Type 0
+Shorter [] [] = Unit {0}
+Shorter [] (job ∷ jobs) = ⊥
+Shorter (short ∷ shorts) [] = ⊥
+Shorter (short ∷ shorts) (job ∷ jobs) =
+    (windowTicks job ≡ windowTicks short) × (short .mandatory ≤ job .mandatory) × (short .optional ≤ job .optional) × Shorter shorts jobs
+
+-- the work of a job grows with its lengths
+work-less : (short job : Job) (keep : Bool) → short .mandatory ≤ job .mandatory → short .optional ≤ job .optional → workWith short keep ≤ workWith job keep
+work-less short job true m o = omega arith
+work-less short job false m o = omega arith
+
+-- so do the works of a list that fits
+shorter-works : (shorts jobs : List Job) (keeps : List Bool) → Shorter shorts jobs → fits jobs keeps ≡ true → NoMore (worksOf shorts keeps) (worksOf jobs keeps)
+unfolding worksFit worksOf
+shorter-works [] [] [] s e = tt
+shorter-works [] [] (keep ∷ keeps) s e = both-absurd false e refl
+shorter-works [] (job ∷ jobs) keeps s e = absurd s
+shorter-works (short ∷ shorts) [] keeps s e = absurd s
+shorter-works (short ∷ shorts) (job ∷ jobs) [] s e = both-absurd false e refl
+shorter-works (short ∷ shorts) (job ∷ jobs) (keep ∷ keeps) s e =
+    (work-less short job keep (s .1) (s .2), shorter-works shorts jobs keeps (s .3) (fits-tail job jobs keep keeps e))
+
+-- the windows are the same
+shorter-windows : (shorts jobs : List Job) → Shorter shorts jobs → SameWindows jobs shorts
+shorter-windows [] [] s = tt
+shorter-windows [] (job ∷ jobs) s = s
+shorter-windows (short ∷ shorts) [] s = s
+shorter-windows (short ∷ shorts) (job ∷ jobs) s = (s .0, shorter-windows shorts jobs (s .3))
+
+-- A list that fits jobs fits all that have the same windows and lesser lengths: one that fits the greatest lengths fits every choice of lengths.
+pub fits-shorter : (shorts jobs : List Job) (keeps : List Bool) → Shorter shorts jobs → fits jobs keeps ≡ true → fits shorts keeps ≡ true
+fits-shorter shorts jobs keeps s e =
+    works-windows jobs shorts (worksOf shorts keeps) (shorter-windows shorts jobs s)
+    (works-less jobs (worksOf shorts keeps) (worksOf jobs keeps) (shorter-works shorts jobs keeps s e) e)

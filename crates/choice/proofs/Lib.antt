@@ -1,5 +1,7 @@
 pub mod OrderLaws
+pub mod WorkLaws
 pub mod FitLaws
+pub mod BestLaws
 pub mod RowLaws
 pub mod ChoiceLaws
 pub mod RewriteLaws

@@ -11,7 +11,7 @@ use lib.Dec.{leb, ltb, eqb}
 use borrow.Author.Tests.{leb-true, leb-false, ltb-true, ltb-false, eqb-true, eqb-false, le-leb, lt-leb, lt-ltb, le-ltb}
 use Rattle.base.proofs.TestLaws.{pick-true, pick-false, both-absurd, pick-cases, picked}
 use Rattle.schedule.specs.declared.Job.{Job}
-use Rattle.choice.specs.Choice.{windowTicks, fits, keptTicks, discardMarks, keptWorth, ZeroKept}
+use Rattle.choice.specs.Choice.{windowTicks, worksFit, worksOf, fits, keptTicks, discardMarks, keptWorth, ZeroKept}
 use Rattle.choice.specs.Rows.{mandatorySum, allWorth, within, keeping, row, greatest, backtrack}
 use Rattle.choice.proofs.OrderLaws.{LexAtMost}
 use Rattle.choice.proofs.FitLaws.{fits-tail, fits-room, room-fits}
@@ -118,7 +118,7 @@ module _ (worth : Job → ℕ) (huge : ℕ) where
   -- no list that fits keeps fewer ticks than the row says at its worth
   pub row-least : (jobs : List Job) (keeps : List Bool) → fits jobs keeps ≡ true
       → row worth huge jobs (keptWorth worth jobs keeps) ≤ keptTicks jobs keeps
-  unfolding fits row keptWorth keptTicks
+  unfolding worksFit worksOf row keptWorth keptTicks
   row-least [] [] e = omega arith
   row-least [] (keep ∷ keeps) e = both-absurd false e refl
   row-least (job ∷ jobs) [] e = both-absurd false e refl
@@ -160,7 +160,7 @@ module _ (worth : Job → ℕ) (huge : ℕ) where
 
   -- the marks read back from a number of a row keep what it says
   pub backtrack-keeps : (jobs : List Job) (v x : ℕ) → row worth huge jobs v ≡ x → x < huge → Keeps worth jobs v x (backtrack worth huge jobs v x)
-  unfolding row backtrack fits keptWorth keptTicks
+  unfolding row backtrack worksFit worksOf keptWorth keptTicks
   backtrack-keeps [] zero x e l = record { fit = refl; value = refl; ticks = e }
   backtrack-keeps [] (suc v) x e l = absurd (omega arith)
   backtrack-keeps (job ∷ jobs) v x e l =
@@ -177,7 +177,7 @@ module _ (worth : Job → ℕ) (huge : ℕ) where
   -- of the lists that keep as much they have the least marks: they keep at the outermost job where two differ
   pub backtrack-first : (jobs : List Job) (v x : ℕ) (keeps : List Bool) → row worth huge jobs v ≡ x → x < huge → Keeps worth jobs v x keeps
       → LexAtMost (discardMarks (backtrack worth huge jobs v x)) (discardMarks keeps)
-  unfolding row backtrack fits keptWorth keptTicks LexAtMost
+  unfolding row backtrack worksFit worksOf keptWorth keptTicks LexAtMost
   backtrack-first [] v x keeps e l f = tt
   backtrack-first (job ∷ jobs) v x [] e l f = both-absurd false (f .fit) refl
   backtrack-first (job ∷ jobs) v x (true ∷ keeps) e l f =

@@ -19,19 +19,33 @@ windowTicks job = job .deadline - job .release
 abbrev pub workWith : Job → Bool → ℕ
 workWith job keep = job .mandatory + pick keep (job .optional) 0
 
--- the work of all jobs together
-unfoldable pub totalWork : List Job → List Bool → ℕ
-totalWork [] keeps = 0
-totalWork (job ∷ jobs) [] = 0
-totalWork (job ∷ jobs) (keep ∷ keeps) = workWith job keep + totalWork jobs keeps
+-- the sum of some works
+unfoldable pub total : List ℕ → ℕ
+total [] = 0
+total (work ∷ works) = work + total works
 
--- 'A keep list has one mark a task, 1 kept, 0 discarded. A list fits if, for each task in nest order, its work and that of all tasks before it
--- come to no more than the ticks of its window.' A list with fewer or more marks than jobs does not fit.
-unfoldable pub fits : List Job → List Bool → Bool
-fits [] [] = true
-fits [] (keep ∷ keeps) = false
-fits (job ∷ jobs) [] = false
-fits (job ∷ jobs) (keep ∷ keeps) = and (leb (workWith job keep + totalWork jobs keeps) (windowTicks job)) (fits jobs keeps)
+-- 'A list fits if, for each task in nest order, its work and that of all tasks before it come to no more than the ticks of its window.' Here for
+-- works in the order of the jobs. A list with fewer or more works than jobs does not fit.
+unfoldable pub worksFit : List Job → List ℕ → Bool
+worksFit [] [] = true
+worksFit [] (work ∷ works) = false
+worksFit (job ∷ jobs) [] = false
+worksFit (job ∷ jobs) (work ∷ works) = and (leb (work + total works) (windowTicks job)) (worksFit jobs works)
+
+-- 'A keep list has one mark a task, 1 kept, 0 discarded.' The works of jobs under it, one a mark; a mark that has no job has no work.
+unfoldable pub worksOf : List Job → List Bool → List ℕ
+worksOf [] [] = []
+worksOf [] (keep ∷ keeps) = 0 ∷ worksOf [] keeps
+worksOf (job ∷ jobs) [] = []
+worksOf (job ∷ jobs) (keep ∷ keeps) = workWith job keep ∷ worksOf jobs keeps
+
+-- the work of all jobs together
+abbrev pub totalWork : List Job → List Bool → ℕ
+totalWork jobs keeps = total (worksOf jobs keeps)
+
+-- a keep list fits where its works do; one with fewer or more marks than jobs does not
+abbrev pub fits : List Job → List Bool → Bool
+fits jobs keeps = worksFit jobs (worksOf jobs keeps)
 
 -- every list of one mark a job
 unfoldable pub keepLists : List Job → List (List Bool)
@@ -59,6 +73,17 @@ lexLess [] (b ∷ ys) = true
 lexLess (a ∷ xs) [] = false
 lexLess (a ∷ xs) (b ∷ ys) = pick (ltb a b) true (and (eqb a b) (lexLess xs ys))
 
+-- The best of some candidates: of those that fit the one whose key is least.
+module _ {A : Type 0} (fit : A → Bool) (key : A → List ℕ) where
+  -- of two the second, where it fits and has the lesser key, and else the first
+  unfoldable pub better : A → A → A
+  better a b = pick (and (fit b) (lexLess (key b) (key a))) b a
+
+  -- the best of one and of some others
+  unfoldable pub best : A → List A → A
+  best a [] = a
+  best a (b ∷ bs) = best (better a b) bs
+
 -- The choice, over a worth of each optional part.
 module _ (worth : Job → ℕ) where
   -- what the discarded optional parts are worth
@@ -78,18 +103,9 @@ module _ (worth : Job → ℕ) where
   unfoldable pub key : List Job → List Bool → List ℕ
   key jobs keeps = discardedWorth jobs keeps ∷ keptTicks jobs keeps ∷ discardMarks keeps
 
-  -- of two lists the second, where it fits and the rules prefer it, and else the first
-  unfoldable pub better : List Job → List Bool → List Bool → List Bool
-  better jobs a b = pick (and (fits jobs b) (lexLess (key jobs b) (key jobs a))) b a
-
-  -- the best of a list and of some others
-  unfoldable pub best : List Job → List Bool → List (List Bool) → List Bool
-  best jobs a [] = a
-  best jobs a (b ∷ bs) = best jobs (better jobs a b) bs
-
   -- 'Among fitting lists the planner takes' the best of all. Where the list that keeps nothing does not fit, no list does, and there is no plan.
   unfoldable pub chosenBy : List Job → List Bool
-  chosenBy jobs = best jobs (keepNone jobs) (keepLists jobs)
+  chosenBy jobs = best (fits jobs) (key jobs) (keepNone jobs) (keepLists jobs)
 
 -- What the rules ask of the list that is taken, rule by rule, as statements about every other list that fits. The choice meets them, and no other
 -- list does: the theorems `chosen-taken` and `taken-chosen`.

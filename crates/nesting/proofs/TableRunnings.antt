@@ -6,12 +6,16 @@ use mathlib.Core.List.{List, [], _∷_, map}
 use mathlib.Core.Bool.{true}
 use native.Mathlib.Omega.{arith}
 use lib.Dec.{eqb}
+use lib.ListN.{getD}
 use Rattle.base.specs.Tests.{and}
 use Rattle.table.specs.declared.Table.{Table}
 use Rattle.table.specs.Writing.{Legal}
+use Rattle.schedule.specs.declared.Job.{Job}
+use Rattle.schedule.specs.declared.Run.{Run}
 use Rattle.schedule.specs.Jobs.{jobAt, jobsOf, counts}
 use Rattle.schedule.specs.Ticks.{Owner, one}
-use Rattle.schedule.specs.Runnings.{Holds, Gets, got, Running, discards}
+use Rattle.schedule.specs.Runnings.{Holds, got, RunningOf, Whole, Running, discards}
+use Rattle.schedule.specs.Runs.{ownerOf, TogetherOf}
 use Rattle.schedule.proofs.JudgeLaws.{all-members, all-places, any-places, discards-places}
 use Rattle.choice.specs.Choice.{fits, keepNone, chosen, discarded}
 use Rattle.placement.specs.Placing.{placed}
@@ -21,22 +25,39 @@ use Rattle.nesting.specs.NestOrder.{outermostFirst, jobsOutermostFirst}
 use Rattle.nesting.proofs.NestLaws.{nest-chain}
 use Rattle.nesting.proofs.OrderLaws.{all-outermost, any-outermost, sumOver, count-order}
 
--- A running of a table's jobs in one order is one in the other.
-pub running-order : (t : Table) (owner : Owner) → Running (jobsOf t) owner ↔ Running (jobsOutermostFirst t) owner
+-- A running of a table's jobs in one order is one in the other, whatever each job may get.
+pub running-of-order : (May : Job → ℕ → Type 0) (t : Table) (owner : Owner) → RunningOf May (jobsOf t) owner ↔ RunningOf May (jobsOutermostFirst t) owner
 unfolding jobsOf
-running-order t owner = (
-  λ r.
-      record {
-        inside = λ tick i e. any-outermost t (Holds tick i) .1 (any-places (Holds tick i) (jobAt t) (t .count) .0 (r .inside tick i e));
-        gets = all-outermost t (Gets owner) (all-places (Gets owner) (jobAt t) (t .count) .0 (r .gets));
-      },
-  λ r.
-      record {
-        inside = λ tick i e. any-places (Holds tick i) (jobAt t) (t .count) .1 (any-outermost t (Holds tick i) .0 (r .inside tick i e));
-        gets = all-places (Gets owner) (jobAt t) (t .count) .1
-            (λ k l. all-members (Gets owner) (jobsOutermostFirst t) .0 (r .gets) (jobAt t k) (any-outermost t (λ other. other ≡ jobAt t k) .1 (k, l, refl)));
-      },
-)
+running-of-order May t owner =
+    let Right : Job → Type 0 = λ job. May job (got owner job) in (
+      λ r.
+          record {
+            inside = λ tick i e. any-outermost t (Holds tick i) .1 (any-places (Holds tick i) (jobAt t) (t .count) .0 (r .inside tick i e));
+            gets = all-outermost t Right (all-places Right (jobAt t) (t .count) .0 (r .gets));
+          },
+      λ r.
+          record {
+            inside = λ tick i e. any-places (Holds tick i) (jobAt t) (t .count) .1 (any-outermost t (Holds tick i) .0 (r .inside tick i e));
+            gets = all-places Right (jobAt t) (t .count) .1
+                (λ k l. all-members Right (jobsOutermostFirst t) .0 (r .gets) (jobAt t k) (any-outermost t (λ other. other ≡ jobAt t k) .1 (k, l, refl)));
+          },
+    )
+
+-- So it is where each job gets one of its two amounts.
+pub running-order : (t : Table) (owner : Owner) → Running (jobsOf t) owner ↔ Running (jobsOutermostFirst t) owner
+running-order t owner = running-of-order Whole t owner
+
+-- Numbers by position and runs that are together a running of the jobs outermost first are one of the table's jobs.
+pub together-of-order : (May : Job → ℕ → Type 0) (workBy : Job → ℕ → ℕ) (t : Table) (numbers : List ℕ) (runs : List Run)
+    → TogetherOf May workBy (jobsOutermostFirst t) numbers runs → TogetherOf May workBy (jobsOf t) numbers runs
+unfolding jobsOf jobsOutermostFirst
+together-of-order May workBy t numbers runs g =
+    let Works : Job → Type 0 = λ job. got (ownerOf runs) job ≡ workBy job (getD numbers (job .position) 0) in
+    record {
+      running = running-of-order May t (ownerOf runs) .1 (g .running);
+      work = all-places Works (jobAt t) (t .count) .1
+          (λ k l. all-members Works (jobsOutermostFirst t) .0 (g .work) (jobAt t k) (any-outermost t (λ other. other ≡ jobAt t k) .1 (k, l, refl)));
+    }
 
 -- what is discarded, as a sum over positions
 discards-sum : (t : Table) (owner : Owner) (js : List ℕ)

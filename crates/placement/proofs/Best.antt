@@ -8,30 +8,46 @@ use native.Mathlib.Omega.{arith}
 use lib.Dec.{eqb}
 use borrow.Author.Tests.{ne-eqb, eq-eqb, ltb-true}
 use Rattle.base.specs.Tests.{and}
-use Rattle.base.proofs.TestLaws.{cases}
+use Rattle.base.proofs.TestLaws.{cases, both-absurd}
 use Rattle.schedule.specs.declared.Job.{Job}
 use Rattle.schedule.specs.Jobs.{counts}
 use Rattle.schedule.specs.Ticks.{Owner}
-use Rattle.schedule.specs.Runnings.{All, got, Gets, Running, discards}
-use Rattle.choice.specs.Choice.{workWith, fits, keepNone, discardedWorth, countOne, discarded, chosen}
-use Rattle.choice.proofs.FitLaws.{none-fits, discarded-cons}
+use Rattle.schedule.specs.Runnings.{All, got, RunningOf, Whole, Running, discards}
+use Rattle.choice.specs.Choice.{workWith, worksFit, worksOf, fits, keepNone, discardedWorth, countOne, discarded, chosen}
+use Rattle.choice.proofs.FitLaws.{fits-tail, none-fits, discarded-cons}
 use Rattle.choice.proofs.ChoiceLaws.{chosen-taken}
 use Rattle.placement.specs.Nesting.{Chain}
-use Rattle.placement.specs.Placing.{placed}
-use Rattle.placement.specs.Outcomes.{GetsWork, Fewest}
+use Rattle.placement.specs.Placing.{worksPlaced, placed}
+use Rattle.placement.specs.Outcomes.{GetsWorks, GetsWork, MayGet, Fewest}
 use Rattle.placement.proofs.Necessity.{marksOf, running-fits, running-discards}
-use Rattle.placement.proofs.Sufficiency.{fits-placed}
+use Rattle.placement.proofs.Sufficiency.{works-placed, fits-placed}
 
--- a job that gets its work under a mark gets one of its two amounts
-work-gets : (owner : Owner) (job : Job) (keep : Bool) → got owner job ≡ workWith job keep → Gets owner job
-work-gets owner job true e = inr e
-work-gets owner job false e = inl (omega arith)
+-- jobs that get their works, and may get them, get what they may
+all-may : (May : Job → ℕ → Type 0) (owner : Owner) (jobs : List Job) (works : List ℕ) → GetsWorks jobs works owner → MayGet May jobs works
+    → All (λ job. May job (got owner job)) jobs
+all-may May owner [] works g m = tt
+all-may May owner (job ∷ jobs) [] g m = absurd g
+all-may May owner (job ∷ jobs) (work ∷ works) g m = (rw (g .0) (m .0), all-may May owner jobs works (g .1) (m .1))
 
--- so do all jobs that get the work of a list
-all-get : (owner : Owner) (jobs : List Job) (keeps : List Bool) → GetsWork jobs keeps owner → All (Gets owner) jobs
-all-get owner [] keeps g = tt
-all-get owner (job ∷ jobs) [] g = absurd g
-all-get owner (job ∷ jobs) (keep ∷ keeps) g = (work-gets owner job keep (g .0), all-get owner jobs keeps (g .1))
+-- Works that fit, placed, are a running, where each job may get its work.
+pub works-running : (May : Job → ℕ → Type 0) (jobs : List Job) (works : List ℕ) → Chain jobs → worksFit jobs works ≡ true → MayGet May jobs works
+    → RunningOf May jobs (worksPlaced jobs works)
+works-running May jobs works c e m =
+    let p = works-placed jobs works c e in
+    record { inside = p .inside; gets = all-may May (worksPlaced jobs works) jobs works (p .work) m }
+
+-- the work under a mark is one of the two amounts of a job
+mark-may : (job : Job) (keep : Bool) → Whole job (workWith job keep)
+mark-may job true = inr refl
+mark-may job false = inl (omega arith)
+
+-- so are the works under a keep list that fits
+pub marks-may : (jobs : List Job) (keeps : List Bool) → fits jobs keeps ≡ true → MayGet Whole jobs (worksOf jobs keeps)
+unfolding worksOf worksFit
+marks-may [] [] e = tt
+marks-may [] (keep ∷ keeps) e = both-absurd false e refl
+marks-may (job ∷ jobs) [] e = both-absurd false e refl
+marks-may (job ∷ jobs) (keep ∷ keeps) e = (mark-may job keep, marks-may jobs keeps (fits-tail job jobs keep keeps e))
 
 -- for an optional part above 0 ticks: its job gets the mandatory ticks alone exactly where it is not kept
 work-discards : (g : ℕ) (job : Job) (keep : Bool) → g ≡ workWith job keep → and (counts job) (eqb g (job .mandatory)) ≡ and (counts job) (not keep)
@@ -41,7 +57,7 @@ work-discards g job false e = rw (eq-eqb g (job .mandatory) (omega arith))
 
 -- jobs that get the work of a list discard what the list discards
 pub list-discards : (owner : Owner) (jobs : List Job) (keeps : List Bool) → GetsWork jobs keeps owner → discards jobs owner ≡ discarded jobs keeps
-unfolding discards discardedWorth
+unfolding worksOf discards discardedWorth
 list-discards owner [] keeps g = refl
 list-discards owner (job ∷ jobs) [] g = absurd g
 list-discards owner (job ∷ jobs) (keep ∷ keeps) g =
@@ -49,9 +65,7 @@ list-discards owner (job ∷ jobs) (keep ∷ keeps) g =
 
 -- A list that fits, placed, is a running.
 pub placed-running : (jobs : List Job) (keeps : List Bool) → Chain jobs → fits jobs keeps ≡ true → Running jobs (placed jobs keeps)
-placed-running jobs keeps c e =
-    let p = fits-placed jobs keeps c e in
-    record { inside = p .inside; gets = all-get (placed jobs keeps) jobs keeps (p .work) }
+placed-running jobs keeps c e = works-running Whole jobs (worksOf jobs keeps) c e (marks-may jobs keeps e)
 
 -- In it each job gets its work under its mark.
 pub placed-work : (jobs : List Job) (keeps : List Bool) → Chain jobs → fits jobs keeps ≡ true → GetsWork jobs keeps (placed jobs keeps)

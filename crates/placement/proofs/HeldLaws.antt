@@ -122,10 +122,10 @@ runs-inserted old new k end run l h =
     rw (more, down-lowest new k (end - k), h .here, down-higher new old k (end - k) (λ j a b. h .above j a (omega arith)))
 
 -- a number of each run, by start
-map-places : (part : Run → ℕ) (at : ℕ → Run) (first n : ℕ) → map part (placesFrom at first n) ≡ placesFrom (λ k. part (at k)) first n
+pub map-places : {A B : Type 0} (part : A → B) (at : ℕ → A) (first n : ℕ) → map part (placesFrom at first n) ≡ placesFrom (λ k. part (at k)) first n
 unfolding placesFrom
 map-places part at first zero = refl
-map-places part at first (suc n) = ap (λ (rest : List ℕ). part (at first) ∷ rest) (map-places part at (suc first) n)
+map-places part at first (suc n) = rw (map-places part at (suc first) n)
 
 -- a lent column into which a number of each run was copied
 pub column-written : (part : Run → ℕ) (at : ℕ → Run) (runs : List Run) (first n : ℕ) (old new : List ℕ) → placesFrom at first n ≡ runs

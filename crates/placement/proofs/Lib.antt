@@ -7,6 +7,7 @@ pub mod RunOrder
 pub mod SampleLaws
 pub mod Permutations
 pub mod PlanLaws
+pub mod PositionLaws
 pub mod GapLaws
 pub mod HeldLaws
 pub mod RunColumns

@@ -1,5 +1,5 @@
 -- The order in which jobs are listed does not matter to a running: what it is, and how many optional parts it discards.
-use Prim.Native.Nat.{_+_}
+use Prim.Native.Nat.{ℕ, _+_}
 use mathlib.Core.Path.{_≡_, refl}
 use mathlib.Core.Logic.{_⊎_, inl, inr, _↔_}
 use mathlib.Core.List.{List, [], _∷_, _++_}
@@ -9,7 +9,7 @@ use Rattle.base.specs.Tests.{and}
 use Rattle.schedule.specs.declared.Job.{Job}
 use Rattle.schedule.specs.Jobs.{counts}
 use Rattle.schedule.specs.Ticks.{Owner, one}
-use Rattle.schedule.specs.Runnings.{All, Any, Holds, got, Gets, Running, discards}
+use Rattle.schedule.specs.Runnings.{All, Any, Holds, got, RunningOf, Whole, Running, discards}
 use Rattle.schedule.proofs.JudgeLaws.{any-map, any-member, all-members}
 use Rattle.placement.specs.Outcomes.{Fewest}
 
@@ -29,17 +29,19 @@ any-among P jobs others f h =
 pub all-among : (P : Job → Type 0) (jobs others : List Job) → Among others jobs → All P jobs → All P others
 all-among P jobs others f h = all-members P others .1 (λ job m. all-members P jobs .0 h job (f job m))
 
--- a running of one list is a running of the other
-running-among : (jobs others : List Job) (owner : Owner) → Among jobs others → Among others jobs → Running jobs owner → Running others owner
-running-among jobs others owner f g r =
+-- a running of one list is a running of the other, whatever each job may get
+running-among : (May : Job → ℕ → Type 0) (jobs others : List Job) (owner : Owner) → Among jobs others → Among others jobs → RunningOf May jobs owner
+    → RunningOf May others owner
+running-among May jobs others owner f g r =
     record {
       inside = λ tick i e. any-among (Holds tick i) jobs others f (r .inside tick i e);
-      gets = all-among (Gets owner) jobs others g (r .gets);
+      gets = all-among (λ job. May job (got owner job)) jobs others g (r .gets);
     }
 
 -- A running of jobs is a running of any list with the same members.
-pub running-same : (jobs others : List Job) (owner : Owner) → Among jobs others → Among others jobs → Running jobs owner ↔ Running others owner
-running-same jobs others owner f g = (running-among jobs others owner f g, running-among others jobs owner g f)
+pub running-same : (May : Job → ℕ → Type 0) (jobs others : List Job) (owner : Owner) → Among jobs others → Among others jobs
+    → RunningOf May jobs owner ↔ RunningOf May others owner
+running-same May jobs others owner f g = (running-among May jobs others owner f g, running-among May others jobs owner g f)
 
 -- Permutations: the second list is the first with its members in some order.
 abbrev pub Permuted : List Job → List Job → Type 0
@@ -85,9 +87,14 @@ among-permuted (first ∷ jobs) others p job m = back (any-take (λ other. other
     back (inl a) f = inl a
     back (inr b) f = inr (f b)
 
--- A running of jobs is a running of the jobs in any order,
+-- A running of jobs is a running of the jobs in any order.
+pub running-of-permuted : (May : Job → ℕ → Type 0) (jobs others : List Job) (owner : Owner) → Permuted jobs others
+    → RunningOf May jobs owner ↔ RunningOf May others owner
+running-of-permuted May jobs others owner p = running-same May jobs others owner (permuted-among jobs others p) (among-permuted jobs others p)
+
+-- So it is where each job gets one of its two amounts,
 pub running-permuted : (jobs others : List Job) (owner : Owner) → Permuted jobs others → Running jobs owner ↔ Running others owner
-running-permuted jobs others owner p = running-same jobs others owner (permuted-among jobs others p) (among-permuted jobs others p)
+running-permuted jobs others owner p = running-of-permuted Whole jobs others owner p
 
 -- and discards as many optional parts of them.
 pub discards-permuted : (jobs others : List Job) (owner : Owner) → Permuted jobs others → discards jobs owner ≡ discards others owner

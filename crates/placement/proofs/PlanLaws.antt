@@ -1,4 +1,4 @@
--- A placing with its marks by position: list and runs are together a running, in whatever order the jobs are listed.
+-- A placing with its numbers by position: numbers and runs are together a running, in whatever order the jobs are listed.
 use Prim.Native.Nat.{ℕ, _≤_}
 use mathlib.Core.Path.{_≡_, sym, ap, fun-ext, _∙_}
 use mathlib.Core.List.{List, [], _∷_}
@@ -7,17 +7,48 @@ use lib.ListN.{getD}
 use Rattle.schedule.specs.declared.Job.{Job}
 use Rattle.schedule.specs.Jobs.{workOf}
 use Rattle.schedule.specs.Ticks.{Owner, one}
-use Rattle.schedule.specs.Runnings.{All, got}
+use Rattle.schedule.specs.Runnings.{All, got, Whole}
 use Rattle.schedule.specs.declared.Run.{Run}
-use Rattle.schedule.specs.Runs.{ownerOf, Together}
-use Rattle.choice.specs.Choice.{fits}
+use Rattle.schedule.specs.Runs.{ownerOf, TogetherOf, Together}
+use Rattle.choice.specs.Choice.{worksFit, worksOf, fits}
 use Rattle.choice.proofs.FitLaws.{work-mark}
 use Rattle.placement.specs.Nesting.{Chain}
-use Rattle.placement.specs.Placing.{placed, stretches}
-use Rattle.placement.specs.Outcomes.{GetsWork}
-use Rattle.placement.proofs.Best.{placed-work}
-use Rattle.placement.proofs.RunOrder.{placed-listed, placed-runs-running}
-use Rattle.placement.proofs.Permutations.{Permuted, all-among, among-permuted, running-permuted}
+use Rattle.placement.specs.Placing.{worksPlaced, placed, stretches}
+use Rattle.placement.specs.Outcomes.{GetsWorks, MayGet}
+use Rattle.placement.proofs.Best.{marks-may}
+use Rattle.placement.proofs.Sufficiency.{works-placed}
+use Rattle.placement.proofs.RunOrder.{works-listed, works-runs-running}
+use Rattle.placement.proofs.Permutations.{Permuted, all-among, among-permuted, running-of-permuted}
+
+-- numbers by position that say the works of jobs, which stand in the order of the jobs
+abbrev pub SayWorks : (Job → ℕ → ℕ) → List Job → List ℕ → List ℕ → Type 0
+SayWorks workBy [] [] numbers = Unit {0}
+SayWorks workBy [] (work ∷ works) numbers = ⊥
+SayWorks workBy (job ∷ jobs) [] numbers = ⊥
+SayWorks workBy (job ∷ jobs) (work ∷ works) numbers = (workBy job (getD numbers (job .position) 0) ≡ work) × SayWorks workBy jobs works numbers
+
+-- numbers by position that say the same as a list of one number a job, in the order of the jobs
+abbrev pub SameNumbers : List Job → List ℕ → List ℕ → Type 0
+SameNumbers jobs list numbers = SayWorks (λ job number. number) jobs list numbers
+
+-- each job gets the work that its number by position says
+work-numbers : (workBy : Job → ℕ → ℕ) (owner : Owner) (jobs : List Job) (works numbers : List ℕ) → SayWorks workBy jobs works numbers
+    → GetsWorks jobs works owner → All (λ job. got owner job ≡ workBy job (getD numbers (job .position) 0)) jobs
+work-numbers workBy owner [] works numbers s g = tt
+work-numbers workBy owner (job ∷ jobs) [] numbers s g = absurd s
+work-numbers workBy owner (job ∷ jobs) (work ∷ works) numbers s g =
+    (g .0 ∙ sym (s .0), work-numbers workBy owner jobs works numbers (s .1) (g .1))
+
+-- Where works fit and each job may get its work, the numbers and the runs of the placing are together a running.
+pub works-together : (May : Job → ℕ → Type 0) (workBy : Job → ℕ → ℕ) (jobs : List Job) (works numbers : List ℕ) → Chain jobs
+    → worksFit jobs works ≡ true → MayGet May jobs works → SayWorks workBy jobs works numbers → (b : ℕ) → All (λ job. job .deadline ≤ b) jobs
+    → TogetherOf May workBy jobs numbers (stretches (worksPlaced jobs works) b)
+works-together May workBy jobs works numbers c e m s b a =
+    let same : ownerOf (stretches (worksPlaced jobs works) b) ≡ worksPlaced jobs works = fun-ext (works-listed jobs works c e b a .says) in
+    record {
+      running = works-runs-running May jobs works c e m b a;
+      work = rw same (work-numbers workBy (worksPlaced jobs works) jobs works numbers s (works-placed jobs works c e .work));
+    }
 
 -- marks by position, 1 kept and 0 discarded, that say the same as a keep list in the order of the jobs
 abbrev pub SameMarks : List Job → List Bool → List ℕ → Type 0
@@ -26,31 +57,30 @@ SameMarks [] (keep ∷ keeps) marks = ⊥
 SameMarks (job ∷ jobs) [] marks = ⊥
 SameMarks (job ∷ jobs) (keep ∷ keeps) marks = (getD marks (job .position) 0 ≡ one keep) × SameMarks jobs keeps marks
 
--- each job gets the work that its mark by position says
-work-marks : (owner : Owner) (jobs : List Job) (keeps : List Bool) (marks : List ℕ) → SameMarks jobs keeps marks → GetsWork jobs keeps owner
-    → All (λ job. got owner job ≡ workOf job (getD marks (job .position) 0)) jobs
-work-marks owner [] keeps marks s g = tt
-work-marks owner (job ∷ jobs) [] marks s g = absurd s
-work-marks owner (job ∷ jobs) (keep ∷ keeps) marks s g = (
-  g .0 ∙ sym (work-mark job keep) ∙ ap (workOf job) (sym (s .0)),
-  work-marks owner jobs keeps marks (s .1) (g .1),
-)
+-- they say its works
+marks-say : (jobs : List Job) (keeps : List Bool) (marks : List ℕ) → SameMarks jobs keeps marks → SayWorks workOf jobs (worksOf jobs keeps) marks
+unfolding worksOf
+marks-say [] [] marks s = tt
+marks-say [] (keep ∷ keeps) marks s = absurd s
+marks-say (job ∷ jobs) [] marks s = absurd s
+marks-say (job ∷ jobs) (keep ∷ keeps) marks s = (ap (workOf job) (s .0) ∙ work-mark job keep, marks-say jobs keeps marks (s .1))
 
 -- Where the list fits, the marks and the runs of its placing are together a running.
 pub placed-together : (jobs : List Job) (keeps : List Bool) (marks : List ℕ) → Chain jobs → fits jobs keeps ≡ true → SameMarks jobs keeps marks
     → (b : ℕ) → All (λ job. job .deadline ≤ b) jobs → Together jobs marks (stretches (placed jobs keeps) b)
 placed-together jobs keeps marks c e s b a =
-    let same : ownerOf (stretches (placed jobs keeps) b) ≡ placed jobs keeps = fun-ext (placed-listed jobs keeps c e b a .says) in
+    works-together Whole workOf jobs (worksOf jobs keeps) marks c e (marks-may jobs keeps e) (marks-say jobs keeps marks s) b a
+
+-- Numbers and runs that are together a running of jobs are one of the jobs in any order.
+pub together-of-permuted : (May : Job → ℕ → Type 0) (workBy : Job → ℕ → ℕ) (jobs others : List Job) (numbers : List ℕ) (runs : List Run)
+    → Permuted jobs others → TogetherOf May workBy jobs numbers runs → TogetherOf May workBy others numbers runs
+together-of-permuted May workBy jobs others numbers runs p g =
     record {
-      running = placed-runs-running jobs keeps c e b a;
-      work = rw same (work-marks (placed jobs keeps) jobs keeps marks s (placed-work jobs keeps c e));
+      running = running-of-permuted May jobs others (ownerOf runs) p .0 (g .running);
+      work = all-among (λ job. got (ownerOf runs) job ≡ workBy job (getD numbers (job .position) 0)) jobs others (among-permuted jobs others p) (g .work);
     }
 
--- Marks and runs that are together a running of jobs are one of the jobs in any order.
+-- So are marks and runs.
 pub together-permuted : (jobs others : List Job) (marks : List ℕ) (runs : List Run) → Permuted jobs others → Together jobs marks runs
     → Together others marks runs
-together-permuted jobs others marks runs p g =
-    record {
-      running = running-permuted jobs others (ownerOf runs) p .0 (g .running);
-      work = all-among (λ job. got (ownerOf runs) job ≡ workOf job (getD marks (job .position) 0)) jobs others (among-permuted jobs others p) (g .work);
-    }
+together-permuted jobs others marks runs p g = together-of-permuted Whole workOf jobs others marks runs p g

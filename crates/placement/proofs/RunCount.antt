@@ -12,8 +12,7 @@ use Rattle.base.proofs.TestLaws.{cases}
 use Rattle.schedule.specs.declared.Job.{Job}
 use Rattle.schedule.specs.Ticks.{one}
 use Rattle.schedule.specs.declared.Run.{Run}
-use Rattle.choice.specs.Choice.{workWith}
-use Rattle.placement.specs.Filling.{addRun, fill, filled}
+use Rattle.placement.specs.Filling.{addRun, fill, worksFilled}
 
 -- how many runs there are, and how many gaps of free ticks above a run; the first gap is measured from `top`
 runsAndGaps : ℕ → List Run → ℕ
@@ -77,24 +76,24 @@ gaps-top a b [] = omega arith
 gaps-top a b (run ∷ runs) = omega (arith, one-most (ltb (run .end) b))
 
 -- for one job and n more: 2 n + 1 runs and gaps at most, from the deadline down
-gaps-filled : (job : Job) (jobs : List Job) (keep : Bool) (keeps : List Bool)
-    → runsAndGaps (job .deadline) (filled (job ∷ jobs) (keep ∷ keeps)) ≤ 2 * length jobs + 1
-unfolding filled runsAndGaps
-gaps-filled job [] keep keeps = omega (arith, gaps-fill (job .position) (job .release) [] (job .deadline) (workWith job keep))
-gaps-filled job (other ∷ jobs) keep [] = omega (arith, gaps-fill (job .position) (job .release) [] (job .deadline) (workWith job keep))
-gaps-filled job (other ∷ jobs) keep (mark ∷ keeps) =
-    let inner = filled (other ∷ jobs) (mark ∷ keeps) in
+gaps-filled : (job : Job) (jobs : List Job) (work : ℕ) (works : List ℕ)
+    → runsAndGaps (job .deadline) (worksFilled (job ∷ jobs) (work ∷ works)) ≤ 2 * length jobs + 1
+unfolding worksFilled runsAndGaps
+gaps-filled job [] work works = omega (arith, gaps-fill (job .position) (job .release) [] (job .deadline) work)
+gaps-filled job (other ∷ jobs) work [] = omega (arith, gaps-fill (job .position) (job .release) [] (job .deadline) work)
+gaps-filled job (other ∷ jobs) work (next ∷ works) =
+    let inner = worksFilled (other ∷ jobs) (next ∷ works) in
     omega (
       arith,
-      gaps-fill (job .position) (job .release) inner (job .deadline) (workWith job keep),
+      gaps-fill (job .position) (job .release) inner (job .deadline) work,
       gaps-top (other .deadline) (job .deadline) inner,
-      gaps-filled other jobs mark keeps,
+      gaps-filled other jobs next works,
     )
 
--- 'For n tasks there are never more than 2n − 1' runs. This asks nothing of the jobs and the marks.
-pub filled-few : (jobs : List Job) (keeps : List Bool) → length (filled jobs keeps) ≤ 2 * length jobs - 1
-unfolding filled
-filled-few [] keeps = omega arith
+-- 'For n tasks there are never more than 2n − 1' runs. This asks nothing of the jobs and the works.
+pub filled-few : (jobs : List Job) (works : List ℕ) → length (worksFilled jobs works) ≤ 2 * length jobs - 1
+unfolding worksFilled
+filled-few [] works = omega arith
 filled-few (job ∷ jobs) [] = omega arith
-filled-few (job ∷ jobs) (keep ∷ keeps) =
-    omega (arith, gaps-filled job jobs keep keeps, length-most (job .deadline) (filled (job ∷ jobs) (keep ∷ keeps)))
+filled-few (job ∷ jobs) (work ∷ works) =
+    omega (arith, gaps-filled job jobs work works, length-most (job .deadline) (worksFilled (job ∷ jobs) (work ∷ works)))

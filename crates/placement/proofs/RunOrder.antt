@@ -12,17 +12,18 @@ use borrow.Author.Tests.{leb-true, le-leb, lt-ltb, eqb-true, eqb-false}
 use Rattle.base.proofs.TestLaws.{cases, and-true, and-left, and-right}
 use Rattle.schedule.specs.declared.Job.{Job}
 use Rattle.schedule.specs.Ticks.{Owner}
-use Rattle.schedule.specs.Runnings.{All, Running}
+use Rattle.schedule.specs.Runnings.{All, RunningOf, Whole, Running}
 use Rattle.schedule.specs.declared.Run.{Run}
 use Rattle.schedule.specs.Runs.{ownerOf}
 use Rattle.schedule.specs.Judging.{noneEmpty, followFrom, inOrder}
 use Rattle.schedule.proofs.RunLaws.{in-holds, after-holds, free-before}
-use Rattle.choice.specs.Choice.{fits}
+use Rattle.choice.specs.Choice.{worksFit, worksOf, fits}
 use Rattle.placement.specs.Nesting.{Chain}
-use Rattle.placement.specs.Placing.{placed, joinTick, joinTask, latestFirst, stretches}
-use Rattle.placement.specs.Filling.{filled}
-use Rattle.placement.proofs.Sufficiency.{fits-placed}
-use Rattle.placement.proofs.Best.{placed-running}
+use Rattle.placement.specs.Placing.{worksPlaced, placed, joinTick, joinTask, latestFirst, stretches}
+use Rattle.placement.specs.Filling.{worksFilled}
+use Rattle.placement.specs.Outcomes.{MayGet}
+use Rattle.placement.proofs.Sufficiency.{works-placed}
+use Rattle.placement.proofs.Best.{marks-may, works-running}
 use Rattle.placement.proofs.RunCount.{filled-few}
 use Rattle.placement.proofs.RunTicks.{Reads, Longest, free-beyond, filled-stretches}
 
@@ -158,22 +159,36 @@ pub stretches-listed : (owner : Owner) (n : ℕ) → ((tick : ℕ) → n ≤ tic
 unfolding noneEmpty followFrom ownerOf
 stretches-listed owner n free = turn owner (latestFirst owner n) [] n (latest-reads owner n .0) refl refl (λ tick h. sym (free tick h))
 
--- The runs of a placing of a chain, where the list fits and no deadline is after b: none is empty, they stand by start, they say who has each
+-- The runs of a placing of a chain, where the works fit and no deadline is after b: none is empty, they stand by start, they say who has each
 -- tick,
-pub placed-listed : (jobs : List Job) (keeps : List Bool) → Chain jobs → fits jobs keeps ≡ true → (b : ℕ) → All (λ job. job .deadline ≤ b) jobs
-    → Listed (placed jobs keeps) (stretches (placed jobs keeps) b)
-placed-listed jobs keeps c e b a =
-    stretches-listed (placed jobs keeps) b (λ tick h. free-beyond (placed jobs keeps) jobs b tick (fits-placed jobs keeps c e .inside) a h)
+pub works-listed : (jobs : List Job) (works : List ℕ) → Chain jobs → worksFit jobs works ≡ true → (b : ℕ) → All (λ job. job .deadline ≤ b) jobs
+    → Listed (worksPlaced jobs works) (stretches (worksPlaced jobs works) b)
+works-listed jobs works c e b a =
+    stretches-listed (worksPlaced jobs works) b
+    (λ tick h. free-beyond (worksPlaced jobs works) jobs b tick (works-placed jobs works c e .inside) a h)
 
 -- and are never more than 2 n − 1 for n jobs.
+pub works-few : (jobs : List Job) (works : List ℕ) → Chain jobs → worksFit jobs works ≡ true → (b : ℕ) → All (λ job. job .deadline ≤ b) jobs
+    → length (stretches (worksPlaced jobs works) b) ≤ 2 * length jobs - 1
+works-few jobs works c e b a =
+    rw (filled-stretches jobs works c e b a) (omega (arith, length-reverse (worksFilled jobs works), filled-few jobs works))
+
+-- Where each job may get its work, they are a running of the jobs.
+pub works-runs-running : (May : Job → ℕ → Type 0) (jobs : List Job) (works : List ℕ) → Chain jobs → worksFit jobs works ≡ true → MayGet May jobs works
+    → (b : ℕ) → All (λ job. job .deadline ≤ b) jobs → RunningOf May jobs (ownerOf (stretches (worksPlaced jobs works) b))
+works-runs-running May jobs works c e m b a =
+    let same : ownerOf (stretches (worksPlaced jobs works) b) ≡ worksPlaced jobs works = fun-ext (works-listed jobs works c e b a .says) in
+    rw same (works-running May jobs works c e m)
+
+-- The same under a keep list.
+pub placed-listed : (jobs : List Job) (keeps : List Bool) → Chain jobs → fits jobs keeps ≡ true → (b : ℕ) → All (λ job. job .deadline ≤ b) jobs
+    → Listed (placed jobs keeps) (stretches (placed jobs keeps) b)
+placed-listed jobs keeps c e b a = works-listed jobs (worksOf jobs keeps) c e b a
+
 pub placed-few : (jobs : List Job) (keeps : List Bool) → Chain jobs → fits jobs keeps ≡ true → (b : ℕ) → All (λ job. job .deadline ≤ b) jobs
     → length (stretches (placed jobs keeps) b) ≤ 2 * length jobs - 1
-placed-few jobs keeps c e b a =
-    rw (filled-stretches jobs keeps c e b a) (omega (arith, length-reverse (filled jobs keeps), filled-few jobs keeps))
+placed-few jobs keeps c e b a = works-few jobs (worksOf jobs keeps) c e b a
 
--- They are a running of the jobs.
 pub placed-runs-running : (jobs : List Job) (keeps : List Bool) → Chain jobs → fits jobs keeps ≡ true → (b : ℕ) → All (λ job. job .deadline ≤ b) jobs
     → Running jobs (ownerOf (stretches (placed jobs keeps) b))
-placed-runs-running jobs keeps c e b a =
-    let same : ownerOf (stretches (placed jobs keeps) b) ≡ placed jobs keeps = fun-ext (placed-listed jobs keeps c e b a .says) in
-    rw same (placed-running jobs keeps c e)
+placed-runs-running jobs keeps c e b a = works-runs-running Whole jobs (worksOf jobs keeps) c e (marks-may jobs keeps e) b a

@@ -3,7 +3,7 @@ use Prim.Native.Nat.{ℕ, zero, suc, _+_, _-_, _≤_, _<_, min}
 use mathlib.Core.Path.{_≡_, refl, ap, _∙_}
 use mathlib.Core.Logic.{inl, inr, _≢_}
 use mathlib.Core.List.{List, [], _∷_, reverse}
-use mathlib.Core.Bool.{Bool, true, false}
+use mathlib.Core.Bool.{true, false}
 use mathlib.Core.Option.{none, some}
 use native.Mathlib.Nat.{sub-zero}
 use native.Mathlib.Omega.{arith}
@@ -18,12 +18,13 @@ use Rattle.schedule.specs.Runnings.{All, Any, Holds}
 use Rattle.schedule.specs.declared.Run.{Run}
 use Rattle.schedule.proofs.TickLaws.{count-grows}
 use Rattle.schedule.proofs.RunLaws.{owner-cases}
-use Rattle.choice.specs.Choice.{workWith, fits}
-use Rattle.choice.proofs.FitLaws.{fits-tail}
+use Rattle.choice.specs.Choice.{worksFit}
+use Rattle.choice.proofs.WorkLaws.{works-tail}
 use Rattle.placement.specs.Nesting.{Between, positions, Chain}
-use Rattle.placement.specs.Placing.{isFree, freeIn, give, placeJob, placed, joinTask, latestFirst, stretches}
-use Rattle.placement.specs.Filling.{addRun, fill, filled}
-use Rattle.placement.proofs.Sufficiency.{Inside, chain-tail, fits-placed}
+use Rattle.placement.specs.Placing.{isFree, freeIn, give, placeJob, worksPlaced, joinTask, latestFirst, stretches}
+use Rattle.placement.specs.Filling.{addRun, fill, worksFilled}
+use Rattle.placement.proofs.Necessity.{chain-tail}
+use Rattle.placement.proofs.Sufficiency.{Inside, works-placed}
 
 -- runs, latest first, say who has each tick below `top`: none is empty, each ends where the one listed before it starts, or earlier, and ticks
 -- in no run are free
@@ -239,38 +240,37 @@ deadlines a b [] u = tt
 deadlines a b (job ∷ jobs) u = (u .0 .1, deadlines a b jobs (u .1))
 
 -- The filled runs say who has each tick below any tick that no window passes, and no two of them make one.
-pub filled-reads : (jobs : List Job) (keeps : List Bool) → Chain jobs → fits jobs keeps ≡ true → (b : ℕ) → All (λ job. job .deadline ≤ b) jobs
-    → Reads (placed jobs keeps) (filled jobs keeps) b × Longest (filled jobs keeps)
-unfolding placed filled fits
+pub filled-reads : (jobs : List Job) (works : List ℕ) → Chain jobs → worksFit jobs works ≡ true → (b : ℕ) → All (λ job. job .deadline ≤ b) jobs
+    → Reads (worksPlaced jobs works) (worksFilled jobs works) b × Longest (worksFilled jobs works)
+unfolding worksPlaced worksFilled worksFit
 filled-reads [] [] c e b a = (λ n h. refl, tt)
-filled-reads [] (keep ∷ keeps) c e b a = both-absurd false e refl
+filled-reads [] (work ∷ works) c e b a = both-absurd false e refl
 filled-reads (job ∷ jobs) [] c e b a = both-absurd false e refl
-filled-reads (job ∷ jobs) (keep ∷ keeps) c e b a =
+filled-reads (job ∷ jobs) (w ∷ works) c e b a =
     let i = job .position in
-    let w = workWith job keep in
-    let owner : Owner = placed jobs keeps in
+    let owner : Owner = worksPlaced jobs works in
     let after : Owner = placeJob owner job w in
     let inner = chain-tail job jobs c in
-    let fit = fits-tail job jobs keep keeps e in
-    let own = placed-inner owner job jobs c (fits-placed jobs keeps inner fit .inside) in
+    let fit = works-tail job jobs w works e in
+    let own = placed-inner owner job jobs c (works-placed jobs works inner fit .inside) in
     let ends = deadlines (job .release) (job .deadline) jobs (c .nested .0) in
-    let ih = filled-reads jobs keeps inner fit (job .deadline) ends in (
-      reads-more after (fill i (job .release) (filled jobs keeps) (job .deadline) w) (job .deadline) b
-          (reads-fill owner after i (job .release) own (filled jobs keeps) (job .deadline) w (ih .0) (λ n h. rw (lt-ltb n (job .deadline) h)))
+    let ih = filled-reads jobs works inner fit (job .deadline) ends in (
+      reads-more after (fill i (job .release) (worksFilled jobs works) (job .deadline) w) (job .deadline) b
+          (reads-fill owner after i (job .release) own (worksFilled jobs works) (job .deadline) w (ih .0) (λ n h. rw (lt-ltb n (job .deadline) h)))
           (a .0)
-          (λ n h. free-beyond after (job ∷ jobs) (job .deadline) n (fits-placed (job ∷ jobs) (keep ∷ keeps) c e .inside) (omega arith, ends) h),
-      longest-fill i (job .release) (filled jobs keeps) (job .deadline) w (ih .1)
-          (others owner after i (job .release) own (filled jobs keeps) (job .deadline) (ih .0)),
+          (λ n h. free-beyond after (job ∷ jobs) (job .deadline) n (works-placed (job ∷ jobs) (w ∷ works) c e .inside) (omega arith, ends) h),
+      longest-fill i (job .release) (worksFilled jobs works) (job .deadline) w (ih .1)
+          (others owner after i (job .release) own (worksFilled jobs works) (job .deadline) (ih .0)),
     )
 
 -- Filling gives the longest stretches of the placing, the latest first,
-pub filled-latest : (jobs : List Job) (keeps : List Bool) → Chain jobs → fits jobs keeps ≡ true → (b : ℕ) → All (λ job. job .deadline ≤ b) jobs
-    → latestFirst (placed jobs keeps) b ≡ filled jobs keeps
-filled-latest jobs keeps c e b a =
-    let r = filled-reads jobs keeps c e b a in
-    reads-latest (placed jobs keeps) (filled jobs keeps) b (r .0) (r .1)
+pub filled-latest : (jobs : List Job) (works : List ℕ) → Chain jobs → worksFit jobs works ≡ true → (b : ℕ) → All (λ job. job .deadline ≤ b) jobs
+    → latestFirst (worksPlaced jobs works) b ≡ worksFilled jobs works
+filled-latest jobs works c e b a =
+    let r = filled-reads jobs works c e b a in
+    reads-latest (worksPlaced jobs works) (worksFilled jobs works) b (r .0) (r .1)
 
 -- and, turned round, by start.
-pub filled-stretches : (jobs : List Job) (keeps : List Bool) → Chain jobs → fits jobs keeps ≡ true → (b : ℕ) → All (λ job. job .deadline ≤ b) jobs
-    → stretches (placed jobs keeps) b ≡ reverse (filled jobs keeps)
-filled-stretches jobs keeps c e b a = ap reverse (filled-latest jobs keeps c e b a)
+pub filled-stretches : (jobs : List Job) (works : List ℕ) → Chain jobs → worksFit jobs works ≡ true → (b : ℕ) → All (λ job. job .deadline ≤ b) jobs
+    → stretches (worksPlaced jobs works) b ≡ reverse (worksFilled jobs works)
+filled-stretches jobs works c e b a = ap reverse (filled-latest jobs works c e b a)

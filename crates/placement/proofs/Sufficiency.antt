@@ -1,4 +1,4 @@
--- A keep list that fits can be placed: each job of a chain gets its work, in its window.
+-- Works that fit can be placed: each job of a chain gets its work, in its window.
 use Prim.Native.Nat.{ℕ, zero, suc, _+_, _-_, _≤_, _<_}
 use mathlib.Core.Path.{_≡_, refl}
 use mathlib.Core.Logic.{inl, inr, _≢_}
@@ -16,11 +16,12 @@ use Rattle.schedule.specs.Ticks.{Owner, isTask, one, countBelow}
 use Rattle.schedule.specs.Runnings.{All, Any, Holds, got}
 use Rattle.schedule.proofs.TickLaws.{count-grows, count-same, count-none}
 use Rattle.schedule.proofs.RunLaws.{owner-cases}
-use Rattle.choice.specs.Choice.{workWith, totalWork, fits}
-use Rattle.choice.proofs.FitLaws.{fits-head, fits-tail}
+use Rattle.choice.specs.Choice.{total, worksFit, worksOf, fits}
+use Rattle.choice.proofs.WorkLaws.{works-head, works-tail}
 use Rattle.placement.specs.Nesting.{Between, positions, Chain}
-use Rattle.placement.specs.Placing.{isFree, freeIn, give, reachesBack, placeJob, placed}
-use Rattle.placement.specs.Outcomes.{GetsWork}
+use Rattle.placement.specs.Placing.{isFree, freeIn, give, reachesBack, placeJob, worksPlaced, placed}
+use Rattle.placement.specs.Outcomes.{GetsWorks}
+use Rattle.placement.proofs.Necessity.{chain-tail}
 
 -- whoever has a tick is a job whose window holds it
 abbrev pub Inside : List Job → Owner → Type 0
@@ -119,18 +120,18 @@ absent : (owner : Owner) (i : ℕ) (jobs : List Job) → All (λ n. i ≢ n) (po
 absent owner i jobs d h tick = owner-cases (owner tick) (λ e. rw e) (λ k e. rw e (ne-eqb k i (stranger i k jobs tick d (h tick k e))))
 
 -- the other jobs keep what they have
-others-keep : (owner : Owner) (job : Job) (w : ℕ) (jobs : List Job) (keeps : List Bool) → All (λ n. job .position ≢ n) (positions jobs)
-    → GetsWork jobs keeps owner → GetsWork jobs keeps (placeJob owner job w)
+others-keep : (owner : Owner) (job : Job) (w : ℕ) (jobs : List Job) (works : List ℕ) → All (λ n. job .position ≢ n) (positions jobs)
+    → GetsWorks jobs works owner → GetsWorks jobs works (placeJob owner job w)
 others-keep owner job w [] [] d g = tt
-others-keep owner job w [] (keep ∷ keeps) d g = g
+others-keep owner job w [] (work ∷ works) d g = g
 others-keep owner job w (other ∷ jobs) [] d g = g
-others-keep owner job w (other ∷ jobs) (keep ∷ keeps) d g =
+others-keep owner job w (other ∷ jobs) (work ∷ works) d g =
     let i = other .position in
     let same : (n : ℕ) → countBelow (λ tick. isTask i (placeJob owner job w tick)) n ≡ countBelow (λ tick. isTask i (owner tick)) n
     = λ n.
     count-same (λ tick. isTask i (placeJob owner job w tick)) (λ tick. isTask i (owner tick)) n
     (λ tick l. give-other (job .position) i (reachesBack owner job w tick) (owner tick) (d .0)) in
-    (omega (arith, same (other .release), same (other .deadline), g .0), others-keep owner job w jobs keeps (d .1) (g .1))
+    (omega (arith, same (other .release), same (other .deadline), g .0), others-keep owner job w jobs works (d .1) (g .1))
 
 -- every tick passes a test that always holds
 count-all : (n : ℕ) → countBelow (λ tick. true) n ≡ n
@@ -140,18 +141,14 @@ count-all (suc n) = omega (arith, count-all n)
 
 -- a placing of jobs: they have their ticks in their windows, each gets its work, and between any two ticks that their windows lie between
 -- all other ticks are free
-pub record Placed (jobs : List Job) (keeps : List Bool) (owner : Owner) : Type 0 where
+pub record Placed (jobs : List Job) (works : List ℕ) (owner : Owner) : Type 0 where
   pub inside : Inside jobs owner
-  pub work : GetsWork jobs keeps owner
-  pub rest : (a b : ℕ) → a ≤ b → All (Between a b) jobs → freeIn owner a b + totalWork jobs keeps ≡ b - a
+  pub work : GetsWorks jobs works owner
+  pub rest : (a b : ℕ) → a ≤ b → All (Between a b) jobs → freeIn owner a b + total works ≡ b - a
 
 -- One job more, where the list fits: `owner` is a placing of the jobs inside it.
-module _ (owner : Owner) (job : Job) (keep : Bool) (jobs : List Job) (keeps : List Bool) (c : Chain (job ∷ jobs))
-    (fit : fits (job ∷ jobs) (keep ∷ keeps) ≡ true) (p : Placed jobs keeps owner) where
-  -- the work of the job
-  abbrev w : ℕ
-  w = workWith job keep
-
+module _ (owner : Owner) (job : Job) (w : ℕ) (jobs : List Job) (works : List ℕ) (c : Chain (job ∷ jobs))
+    (fit : worksFit (job ∷ jobs) (w ∷ works) ≡ true) (p : Placed jobs works owner) where
   -- who has each tick when it is placed
   abbrev after : Owner
   after = placeJob owner job w
@@ -160,8 +157,8 @@ module _ (owner : Owner) (job : Job) (keep : Bool) (jobs : List Job) (keeps : Li
   enough : w ≤ freeIn owner (job .release) (job .deadline)
   enough =
       elim (decLe (job .release) (job .deadline)) [
-        | yes h ↦ omega (arith, fits-head job jobs keep keeps fit, p .rest (job .release) (job .deadline) h (c .nested .0))
-        | no h ↦ omega (arith, fits-head job jobs keep keeps fit)
+        | yes h ↦ omega (arith, works-head job jobs w works fit, p .rest (job .release) (job .deadline) h (c .nested .0))
+        | no h ↦ omega (arith, works-head job jobs w works fit)
       ]
 
   -- before the release nothing changes
@@ -191,7 +188,7 @@ module _ (owner : Owner) (job : Job) (keep : Bool) (jobs : List Job) (keeps : Li
       )
 
   -- all ticks that the jobs do not have are free
-  own-rest : (a b : ℕ) → a ≤ b → All (Between a b) (job ∷ jobs) → freeIn after a b + (w + totalWork jobs keeps) ≡ b - a
+  own-rest : (a b : ℕ) → a ≤ b → All (Between a b) (job ∷ jobs) → freeIn after a b + (w + total works) ≡ b - a
   own-rest a b h u =
       let test : ℕ → Bool = λ tick. isFree (owner tick) in
       omega (
@@ -215,30 +212,30 @@ module _ (owner : Owner) (job : Job) (keep : Bool) (jobs : List Job) (keeps : Li
       (λ m q. inr (p .inside tick i (cc)))
 
   -- with the job placed it is a placing again
-  place-step : Placed (job ∷ jobs) (keep ∷ keeps) after
-  unfolding totalWork
+  place-step : Placed (job ∷ jobs) (w ∷ works) after
+  unfolding total
   place-step =
       record {
         inside = own-inside;
-        work = (own-work, others-keep owner job w jobs keeps (c .distinct .0) (p .work));
+        work = (own-work, others-keep owner job w jobs works (c .distinct .0) (p .work));
         rest = own-rest;
       }
 
--- the jobs after the first are a chain
-pub chain-tail : (job : Job) (jobs : List Job) → Chain (job ∷ jobs) → Chain jobs
-chain-tail job jobs c = record { nested = c .nested .1; distinct = c .distinct .1 }
-
--- Sufficiency: where a keep list of a chain fits, placing gives each job its work inside its window, and takes no other tick.
-pub fits-placed : (jobs : List Job) (keeps : List Bool) → Chain jobs → fits jobs keeps ≡ true → Placed jobs keeps (placed jobs keeps)
-unfolding placed fits totalWork
-fits-placed [] [] c e =
+-- Sufficiency: where works of a chain fit, placing gives each job its work inside its window, and takes no other tick.
+pub works-placed : (jobs : List Job) (works : List ℕ) → Chain jobs → worksFit jobs works ≡ true → Placed jobs works (worksPlaced jobs works)
+unfolding worksPlaced worksFit total
+works-placed [] [] c e =
     record {
       inside = λ tick i e. let z : _≡_ {A = ℕ} 0 1 = cc in omega arith;
       work = tt;
       rest = λ a b h u. omega (arith, count-all a, count-all b);
     }
-fits-placed [] (keep ∷ keeps) c e = both-absurd false e refl
-fits-placed (job ∷ jobs) [] c e = both-absurd false e refl
-fits-placed (job ∷ jobs) (keep ∷ keeps) c e =
-    place-step (placed jobs keeps) job keep jobs keeps c e
-    (fits-placed jobs keeps (chain-tail job jobs c) (fits-tail job jobs keep keeps e))
+works-placed [] (work ∷ works) c e = both-absurd false e refl
+works-placed (job ∷ jobs) [] c e = both-absurd false e refl
+works-placed (job ∷ jobs) (work ∷ works) c e =
+    place-step (worksPlaced jobs works) job work jobs works c e
+    (works-placed jobs works (chain-tail job jobs c) (works-tail job jobs work works e))
+
+-- So does a keep list that fits.
+pub fits-placed : (jobs : List Job) (keeps : List Bool) → Chain jobs → fits jobs keeps ≡ true → Placed jobs (worksOf jobs keeps) (placed jobs keeps)
+fits-placed jobs keeps c e = works-placed jobs (worksOf jobs keeps) c e

@@ -5,7 +5,7 @@ use mathlib.Core.List.{List, [], _∷_}
 use mathlib.Core.Bool.{Bool}
 use Rattle.schedule.specs.declared.Job.{Job}
 use Rattle.schedule.specs.declared.Run.{Run}
-use Rattle.choice.specs.Choice.{workWith}
+use Rattle.choice.specs.Choice.{worksOf}
 
 -- the most runs of a plan: 2 n − 1 for n = 64 tasks
 abbrev pub maxPlanRuns : ℕ
@@ -22,8 +22,12 @@ fill i release [] top w = addRun i top (min w (top - release)) []
 fill i release (run ∷ runs) top w =
     addRun i top (min w (top - run .end)) (run ∷ fill i release runs (run .start) (w - (top - run .end)))
 
--- the runs of jobs, latest first: the jobs after one in the list are filled in before it
-unfoldable pub filled : List Job → List Bool → List Run
-filled [] keeps = []
-filled (job ∷ jobs) [] = []
-filled (job ∷ jobs) (keep ∷ keeps) = fill (job .position) (job .release) (filled jobs keeps) (job .deadline) (workWith job keep)
+-- the runs of jobs of given works, latest first: the jobs after one in the list are filled in before it
+unfoldable pub worksFilled : List Job → List ℕ → List Run
+worksFilled [] works = []
+worksFilled (job ∷ jobs) [] = []
+worksFilled (job ∷ jobs) (work ∷ works) = fill (job .position) (job .release) (worksFilled jobs works) (job .deadline) work
+
+-- the same under a keep list
+abbrev pub filled : List Job → List Bool → List Run
+filled jobs keeps = worksFilled jobs (worksOf jobs keeps)

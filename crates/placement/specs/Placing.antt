@@ -1,4 +1,4 @@
--- Where the work of each job is placed, tick by tick. Jobs stand outermost first (nest order from its last to its first), and so do their marks.
+-- Where the work of each job is placed, tick by tick. Jobs stand outermost first (nest order from its last to its first), and so do their works.
 use Prim.Native.Nat.{ℕ, zero, suc}
 use mathlib.Core.List.{List, [], _∷_, reverse}
 use mathlib.Core.Bool.{Bool, true, false}
@@ -8,7 +8,7 @@ use Rattle.base.specs.Tests.{pick, and}
 use Rattle.schedule.specs.declared.Job.{Job}
 use Rattle.schedule.specs.Ticks.{Owner, countIn}
 use Rattle.schedule.specs.declared.Run.{Run}
-use Rattle.choice.specs.Choice.{workWith}
+use Rattle.choice.specs.Choice.{worksOf}
 
 -- a tick is free where no task has it
 abbrev pub isFree : Option ℕ → Bool
@@ -33,11 +33,15 @@ reachesBack owner job w tick = and (leb (job .release) tick) (and (ltb tick (job
 abbrev pub placeJob : Owner → Job → ℕ → Owner
 placeJob owner job w tick = give (job .position) (reachesBack owner job w tick) (owner tick)
 
--- 'Placing goes in nest order': the jobs after one in the list are placed before it. Jobs that have no mark are not placed.
-unfoldable pub placed : List Job → List Bool → Owner
-placed [] keeps tick = none
-placed (job ∷ jobs) [] tick = none
-placed (job ∷ jobs) (keep ∷ keeps) tick = placeJob (placed jobs keeps) job (workWith job keep) tick
+-- 'Placing goes in nest order': the jobs after one in the list are placed before it. Jobs that have no work given are not placed.
+unfoldable pub worksPlaced : List Job → List ℕ → Owner
+worksPlaced [] works tick = none
+worksPlaced (job ∷ jobs) [] tick = none
+worksPlaced (job ∷ jobs) (work ∷ works) tick = placeJob (worksPlaced jobs works) job work tick
+
+-- the same under a keep list
+abbrev pub placed : List Job → List Bool → Owner
+placed jobs keeps = worksPlaced jobs (worksOf jobs keeps)
 
 -- 'A run is (start, end, task), end excluded; in a plan it is a longest stretch of one task.'
 
@@ -69,6 +73,10 @@ abbrev pub outermostDeadline : List Job → ℕ
 outermostDeadline [] = 0
 outermostDeadline (job ∷ jobs) = job .deadline
 
--- the runs of jobs under a keep list, by start
+-- the runs of jobs of given works, by start
+abbrev pub worksRuns : List Job → List ℕ → List Run
+worksRuns jobs works = stretches (worksPlaced jobs works) (outermostDeadline jobs)
+
+-- the same under a keep list
 abbrev pub runsPlaced : List Job → List Bool → List Run
-runsPlaced jobs keeps = stretches (placed jobs keeps) (outermostDeadline jobs)
+runsPlaced jobs keeps = worksRuns jobs (worksOf jobs keeps)

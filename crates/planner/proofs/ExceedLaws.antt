@@ -16,7 +16,7 @@ use Rattle.schedule.specs.declared.Job.{Job}
 use Rattle.schedule.specs.Jobs.{jobAt}
 use Rattle.schedule.specs.Runnings.{All}
 use Rattle.schedule.proofs.JudgeLaws.{job-position}
-use Rattle.choice.specs.Choice.{windowTicks, workWith, totalWork, fits, keepNone}
+use Rattle.choice.specs.Choice.{windowTicks, workWith, total, worksFit, worksOf, totalWork, fits, keepNone}
 use Rattle.choice.specs.Rows.{mandatorySum}
 use Rattle.nesting.specs.NestOrder.{outermostFirst, nestOrder, jobsOutermostFirst}
 use Rattle.nesting.proofs.OrderLaws.{all-outermost}
@@ -81,7 +81,7 @@ sum-reverse (job ∷ jobs) = rw (reverse-cons job jobs) (omega (arith, sum-appen
 
 -- a list that keeps nothing has the mandatory ticks for its work
 none-work : (jobs : List Job) → totalWork jobs (keepNone jobs) ≡ mandatorySum jobs
-unfolding totalWork mandatorySum
+unfolding total worksOf mandatorySum
 none-work [] = refl
 none-work (job ∷ jobs) = omega (arith, none-work jobs)
 
@@ -104,7 +104,7 @@ one-more n place position false false h e = rw (e, e)
 -- some task exceeds its window exactly where the mandatory parts do not fit
 exceeding-test : (n : ℕ) (jobs : List Job) → All (λ job. job .position < n) jobs
     → ltb (exceedingAfter n 0 (reverse jobs)) n ≡ not (fits jobs (keepNone jobs))
-unfolding exceedingAfter fits mandatorySum
+unfolding exceedingAfter worksFit worksOf mandatorySum
 exceeding-test n [] h = le-ltb n n (omega arith)
 exceeding-test n (job ∷ jobs) h =
     let split = exceeding-append n 0 (reverse jobs) (job ∷ []) (all-reverse (λ job. job .position < n) jobs (h .1)) in

@@ -18,13 +18,11 @@ use Rattle.table.specs.Reading.{tableIn, readAnswer}
 use Rattle.table.specs.Writing.{Legal}
 use Rattle.table.proofs.FileLaws.{legal-count}
 use Rattle.table.proofs.RoundTrip.{read-legal}
-use Rattle.schedule.specs.declared.Job.{Job}
-use Rattle.schedule.specs.declared.Run.{Run}
 use Rattle.schedule.specs.Jobs.{jobAt, jobsOf, workOf, counts}
-use Rattle.schedule.specs.Runnings.{All, got, discards}
+use Rattle.schedule.specs.Runnings.{All, Whole, discards}
 use Rattle.schedule.specs.Runs.{ownerOf, Together}
 use Rattle.schedule.specs.Judging.{verdict, firstBadMark, judgeSays, judgeTable, judged, keptCount, discardedCount}
-use Rattle.schedule.proofs.JudgeLaws.{job-position, all-members, all-places, together-discards, judge-verdict}
+use Rattle.schedule.proofs.JudgeLaws.{job-position, together-discards, judge-verdict}
 use Rattle.choice.specs.Choice.{fits, keepNone, chosen, kept, discarded}
 use Rattle.choice.proofs.ChoiceLaws.{chosen-length}
 use Rattle.placement.specs.Placing.{placed, outermostDeadline}
@@ -34,8 +32,8 @@ use Rattle.placement.proofs.FilledPlaces.{chain-deadlines}
 use Rattle.placement.proofs.PlanLaws.{SameMarks, placed-together}
 use Rattle.nesting.specs.NestOrder.{outermostFirst, jobsOutermostFirst}
 use Rattle.nesting.proofs.NestLaws.{nest-chain}
-use Rattle.nesting.proofs.OrderLaws.{all-outermost, any-outermost, outermost-length, count-order}
-use Rattle.nesting.proofs.TableRunnings.{running-order, table-running-exists, table-discards, table-least, table-fewest}
+use Rattle.nesting.proofs.OrderLaws.{all-outermost, outermost-length, count-order}
+use Rattle.nesting.proofs.TableRunnings.{together-of-order, table-running-exists, table-discards, table-least, table-fewest}
 use Rattle.planner.specs.Planning.{firstExceeding, tooShort, keepList, markAt, planMarks, planRuns, startsOf, endsOf, tasksOf, planOf, planTable, planReply}
 use Rattle.planner.specs.Demands.{NoRunning, Optimal}
 use Rattle.planner.proofs.ExceedLaws.{exceeding-table}
@@ -71,17 +69,6 @@ table-impossible t legal marks starts ends tasks =
     (λ h. rw h (λ z. absurd (omega arith), λ f. absurd (f (r .0) (r .1))))
     (λ h. rw h (λ z. absurd (omega arith), λ f. absurd (f (r .0) (r .1))))))
 
--- a running of the jobs in one order is with its marks one of the jobs in the other
-together-order : (t : Table) (marks : List ℕ) (runs : List Run) → Together (jobsOutermostFirst t) marks runs → Together (jobsOf t) marks runs
-unfolding jobsOf jobsOutermostFirst
-together-order t marks runs g =
-    let Works : Job → Type 0 = λ job. got (ownerOf runs) job ≡ workOf job (getD marks (job .position) 0) in
-    record {
-      running = running-order t (ownerOf runs) .1 (g .running);
-      work = all-places Works (jobAt t) (t .count) .1
-          (λ k l. all-members Works (jobsOutermostFirst t) .0 (g .work) (jobAt t k) (any-outermost t (λ other. other ≡ jobAt t k) .1 (k, l, refl)));
-    }
-
 -- What is known of the plan of an accepted table whose mandatory parts fit.
 module _ (t : Table) (legal : Legal t) (none : fits (jobsOutermostFirst t) (keepNone (jobsOutermostFirst t)) ≡ true) where
   -- its keep list fits
@@ -111,7 +98,7 @@ module _ (t : Table) (legal : Legal t) (none : fits (jobsOutermostFirst t) (keep
   pub plan-together : Together (jobsOf t) (planMarks t) (planRuns t)
   unfolding planRuns
   plan-together =
-      together-order t (planMarks t) (planRuns t)
+      together-of-order Whole workOf t (planMarks t) (planRuns t)
       (placed-together (jobsOutermostFirst t) (keepList t) (planMarks t) (nest-chain t legal) keeps-fit plan-marks (outermostDeadline (jobsOutermostFirst t)) ends-outermost)
 
   -- Demand 3, whole.

@@ -2,7 +2,7 @@
 use Prim.Native.Nat.{ℕ, _+_, _-_, _*_}
 use mathlib.Core.List.{List, [], _∷_, map}
 use mathlib.Core.Bool.{Bool}
-use lib.Dec.{ltb, eqb}
+use lib.Dec.{ltb}
 use lib.ListN.{length}
 use Rattle.base.specs.Tests.{pick, or}
 use Rattle.base.specs.Places.{places}
@@ -16,6 +16,7 @@ use Rattle.schedule.specs.Jobs.{jobAt}
 use Rattle.schedule.specs.Ticks.{one}
 use Rattle.choice.specs.Choice.{windowTicks, chosen, kept, discarded}
 use Rattle.placement.specs.Placing.{runsPlaced}
+use Rattle.placement.specs.ByPosition.{numberAt}
 use Rattle.nesting.specs.NestOrder.{nestOrder, jobsOutermostFirst}
 use Rattle.planner.specs.declared.Planned.{Planned}
 
@@ -39,11 +40,9 @@ tooShort n marks starts ends tasks = or (ltb marks n) (or (ltb starts (2 * n - 1
 unfoldable pub keepList : Table → List Bool
 keepList t = chosen (jobsOutermostFirst t)
 
--- the mark of position k in a keep list of jobs: 1 kept, 0 discarded
-unfoldable pub markAt : List Job → List Bool → ℕ → ℕ
-markAt [] keeps k = 0
-markAt (job ∷ jobs) [] k = 0
-markAt (job ∷ jobs) (keep ∷ keeps) k = pick (eqb (job .position) k) (one keep) (markAt jobs keeps k)
+-- the mark of a position in a keep list of jobs: 1 kept, 0 discarded
+abbrev pub markAt : List Job → List Bool → ℕ → ℕ
+markAt jobs keeps = numberAt jobs (map one keeps)
 
 -- the marks of a plan: the keep list by position
 unfoldable pub planMarks : Table → List ℕ

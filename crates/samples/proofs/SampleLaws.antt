@@ -14,25 +14,26 @@ use Rattle.bits.specs.Bits.{bitAt, number, field, bytesFor}
 use Rattle.clock.specs.Clock.{releaseTick, deadlineTick}
 use Rattle.table.specs.Tables.{taskAt, tableOf}
 use Rattle.table.specs.Layout.{taskStart, fileLength, badCount, badPeriod}
-use Rattle.table.specs.Windows.{reversed, contains, nested, crosses, windowAnswer}
-use Rattle.table.specs.Reading.{countIn, pIn, qIn, taskFrom, taskIn, tableIn, paddingSet, headAnswer, readAnswer}
+use Rattle.table.specs.Windows.{reversed, contains, nested, crosses, forwardAnswer, nestingAnswer, windowAnswer}
+use Rattle.table.specs.Reading.{countIn, pIn, qIn, taskFrom, taskIn, tableIn, paddingSet, frontAnswer, headAnswer, readAnswer}
 use Rattle.table.specs.Moving.{movedOutside, firstOutside, moveReply}
 use Rattle.table.specs.declared.Written.{Written}
 use Rattle.schedule.specs.declared.Run.{Run}
 use Rattle.schedule.specs.Jobs.{jobOf, jobAt}
 use Rattle.schedule.specs.Ticks.{countBelow}
 use Rattle.schedule.specs.Runnings.{All}
-use Rattle.choice.specs.Choice.{totalWork, fits, keepLists, keptTicks, lexLess, discardedWorth, keptWorth, key, better, best, chosenBy}
-use Rattle.placement.specs.Placing.{placed, latestFirst}
+use Rattle.choice.specs.Choice.{total, worksFit, worksOf, keepLists, keptTicks, lexLess, discardedWorth, keptWorth, key, better, best, chosenBy}
+use Rattle.placement.specs.Placing.{worksPlaced, latestFirst}
+use Rattle.placement.specs.ByPosition.{numberAt}
 use Rattle.nesting.specs.NestOrder.{nestBefore, insertOuter, outermostFirst, nestOrder, jobsOutermostFirst}
 use Rattle.planner.specs.declared.Planned.{Planned}
-use Rattle.planner.specs.Planning.{exceedingAfter, firstExceeding, tooShort, keepList, markAt, planMarks, planRuns, planOf, planTable, planReply, startsOf, endsOf, tasksOf}
+use Rattle.planner.specs.Planning.{exceedingAfter, firstExceeding, tooShort, keepList, planMarks, planRuns, planOf, planTable, planReply, startsOf, endsOf, tasksOf}
 use Rattle.planner.proofs.ColumnLaws.{columns-runs}
 use Rattle.samples.specs.Samples.{Sample, PlanSample, clock, plan, move, Says, PlanSays, samples, sameNumbers, partsOf, movedParts, sameRuns, planHolds, holds, allHold}
 
 -- every sample passes
 all-pass : allHold samples ≡ true
-unfolding allHold holds planHolds sameRuns sameNumbers planReply planTable planOf planRuns planMarks markAt keepList tooShort firstExceeding exceedingAfter jobsOutermostFirst nestOrder outermostFirst insertOuter nestBefore placed latestFirst chosenBy best better key keptWorth discardedWorth lexLess keptTicks keepLists fits totalWork countBelow jobAt jobOf moveReply firstOutside movedOutside readAnswer headAnswer paddingSet tableIn taskIn taskFrom qIn pIn countIn windowAnswer crosses nested contains reversed badPeriod badCount fileLength taskStart tableOf taskAt releaseTick deadlineTick bytesFor field number bitAt placesFrom places someBelow lowest lowestFrom
+unfolding allHold holds planHolds sameRuns sameNumbers planReply planTable planOf planRuns planMarks numberAt keepList tooShort firstExceeding exceedingAfter jobsOutermostFirst nestOrder outermostFirst insertOuter nestBefore worksPlaced latestFirst chosenBy best better key keptWorth discardedWorth lexLess keptTicks keepLists worksFit worksOf total countBelow jobAt jobOf moveReply firstOutside movedOutside readAnswer headAnswer frontAnswer paddingSet tableIn taskIn taskFrom qIn pIn countIn windowAnswer forwardAnswer nestingAnswer crosses nested contains reversed badPeriod badCount fileLength taskStart tableOf taskAt releaseTick deadlineTick bytesFor field number bitAt placesFrom places someBelow lowest lowestFrom
 all-pass = refl
 
 -- numbers that pass the test are equal

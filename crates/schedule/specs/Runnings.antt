@@ -1,5 +1,5 @@
 -- What a running of jobs is (document 01's term; the field says schedule), whoever made it. It gives each tick to one task or to none, a task
--- gets ticks of its window only, and as many as its mandatory ticks or as its mandatory and optional ticks together.
+-- gets ticks of its window only, and as many as it may: its mandatory ticks, or its mandatory and optional ticks together.
 use Prim.Native.Nat.{ℕ, _+_, _≤_, _<_}
 use mathlib.Core.Path.{_≡_}
 use mathlib.Core.Logic.{_⊎_, _≢_}
@@ -33,14 +33,23 @@ Holds tick i job = (job .position ≡ i) × (job .release ≤ tick) × (tick < j
 abbrev pub got : Owner → Job → ℕ
 got owner job = ticksOf owner (job .position) (job .release) (job .deadline)
 
+-- a running of jobs, where `May job n` says that a job may get n ticks: whoever has a tick is a job whose window holds it, and each job gets as
+-- many as it may
+pub record RunningOf (May : Job → ℕ → Type 0) (jobs : List Job) (owner : Owner) : Type 0 where
+  pub inside : (tick i : ℕ) → owner tick ≡ some i → Any (Holds tick i) jobs
+  pub gets : All (λ job. May job (got owner job)) jobs
+
+-- n ticks are the mandatory ticks of a job, or those and its optional ones: its optional part is run whole or not at all
+abbrev pub Whole : Job → ℕ → Type 0
+Whole job n = (n ≡ job .mandatory) ⊎ (n ≡ job .mandatory + job .optional)
+
 -- a job gets its mandatory ticks, or those and its optional ones
 abbrev pub Gets : Owner → Job → Type 0
-Gets owner job = (got owner job ≡ job .mandatory) ⊎ (got owner job ≡ job .mandatory + job .optional)
+Gets owner job = Whole job (got owner job)
 
 -- a running of jobs: whoever has a tick is a job whose window holds it, and each job gets one of its two amounts
-pub record Running (jobs : List Job) (owner : Owner) : Type 0 where
-  pub inside : (tick i : ℕ) → owner tick ≡ some i → Any (Holds tick i) jobs
-  pub gets : All (Gets owner) jobs
+abbrev pub Running : List Job → Owner → Type 0
+Running jobs owner = RunningOf Whole jobs owner
 
 -- how many optional parts above 0 ticks a running discards: those whose job gets its mandatory ticks alone
 unfoldable pub discards : List Job → Owner → ℕ

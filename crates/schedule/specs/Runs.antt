@@ -13,7 +13,7 @@ use Rattle.schedule.specs.declared.Job.{Job}
 use Rattle.schedule.specs.declared.Run.{Run}
 use Rattle.schedule.specs.Jobs.{workOf}
 use Rattle.schedule.specs.Ticks.{Owner}
-use Rattle.schedule.specs.Runnings.{All, got, Running}
+use Rattle.schedule.specs.Runnings.{All, got, RunningOf, Whole}
 
 -- the run of which every number is 0
 abbrev pub noRun : Run
@@ -39,7 +39,11 @@ unfoldable pub ownerOf : List Run → Owner
 ownerOf [] tick = none
 ownerOf (run ∷ runs) tick = pick (holds run tick) (some (run .task)) (ownerOf runs tick)
 
+-- a list of numbers, one a position, and runs are together a running: the runs are one, and each job gets the work that its number says
+pub record TogetherOf (May : Job → ℕ → Type 0) (workBy : Job → ℕ → ℕ) (jobs : List Job) (numbers : List ℕ) (runs : List Run) : Type 0 where
+  pub running : RunningOf May jobs (ownerOf runs)
+  pub work : All (λ job. got (ownerOf runs) job ≡ workBy job (getD numbers (job .position) 0)) jobs
+
 -- a keep list and runs are together a running: the runs are one, and each job gets the work that its mark says
-pub record Together (jobs : List Job) (marks : List ℕ) (runs : List Run) : Type 0 where
-  pub running : Running jobs (ownerOf runs)
-  pub work : All (λ job. got (ownerOf runs) job ≡ workOf job (getD marks (job .position) 0)) jobs
+abbrev pub Together : List Job → List ℕ → List Run → Type 0
+Together jobs marks runs = TogetherOf Whole workOf jobs marks runs

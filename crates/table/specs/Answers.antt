@@ -1,6 +1,9 @@
 -- What reading answers, as document 01 prints it: for each case the number and the place.
 use Prim.Native.Nat.{ℕ}
 use mathlib.Core.Bool.{Bool, true, false}
+use lib.Dec.{ltb}
+use Rattle.base.specs.Tests.{pick}
+use Rattle.base.specs.Lowest.{lowest}
 use Rattle.table.specs.declared.Answer.{Answer}
 use Rattle.table.specs.declared.Answer.the-variants.{Accepted, Short, Count, Long, Padding, Period, Window, Nesting}
 use Rattle.table.specs.declared.Written.{Written}
@@ -37,6 +40,14 @@ isAccepted Padding = false
 isAccepted Period = false
 isAccepted (Window position) = false
 isAccepted (Nesting position) = false
+
+-- what two answers come to, one after the other: the first where it refuses, and else the second
+abbrev pub inOrder : Answer → Answer → Answer
+inOrder first second = pick (isAccepted first) second first
+
+-- the refusal that names the lowest position below n that passes a test; where none does, nothing is refused
+abbrev pub refusedAt : (ℕ → Answer) → (ℕ → Bool) → ℕ → Answer
+refusedAt refusal test n = pick (ltb (lowest test n) n) (refusal (lowest test n)) Accepted
 
 -- the reply of writing or moving that refuses, and the one that reports bytes written: parts that are not named are 0
 abbrev pub declined : ℕ → ℕ → Written

@@ -7,8 +7,8 @@ ghost use Rattle.base.specs.Limits.{maxTasks};
 ghost use Rattle.base.specs.Lowest.{lowest, someBelow};
 ghost use Rattle.table.specs.Tables.{noTask, noTable, tableOf, taskAt};
 ghost use Rattle.table.specs.Answers.{numberOf, placeOf, declined, wrote};
-ghost use Rattle.table.specs.Windows.{reversed, contains, nested, windowAt, crosses, windowAnswer};
-ghost use Rattle.table.specs.Layout.{badCount, badPeriod, fileLength};
+ghost use Rattle.table.specs.Windows.{reversed, contains, nested, windowAt, crosses, forwardAnswer, nestingAnswer, windowAnswer};
+ghost use Rattle.table.specs.Layout.{badCount, badPeriod, widestRow, rowsLength, fileLength};
 use base::MAX_PERIOD;
 use base::MAX_TASKS;
 
@@ -169,12 +169,21 @@ pub fn bad_period(p: u32, q: u32) -> bool
     p < q
 }
 
+// The bytes of a file of `count` rows of `width` bits.
+pub fn rows_length(width: usize, count: u32) -> usize
+    requires { ⌜ width ≤ widestRow ⌝ }
+    requires { ⌜ count ≤ maxTasks ⌝ }
+    ensures { λ r. ⌜ r ≡ rowsLength width count ⌝ }
+{
+    (HEADER_WIDTH + width * (count as usize) + 7) / 8
+}
+
 // The bytes of a file of `count` tasks.
 pub fn file_length(count: u32) -> usize
     requires { ⌜ count ≤ maxTasks ⌝ }
     ensures { λ r. ⌜ r ≡ fileLength count ⌝ }
 {
-    (HEADER_WIDTH + TASK_WIDTH * (count as usize) + 7) / 8
+    rows_length(TASK_WIDTH, count)
 }
 
 // The release frame is not below the deadline frame.
@@ -295,20 +304,39 @@ impl Table {
         k
     }
 
+    // The first window that is reversed, as an answer.
+    pub fn forward_answer(self) -> Answer
+        requires { ⌜ self .count ≤ maxTasks ⌝ }
+        ensures { λ r. ⌜ r ≡ forwardAnswer self ⌝ }
+    {
+        let reversed = self.first_reversed();
+        if reversed < self.count as usize {
+            return Answer::Window(reversed);
+        }
+        Answer::Accepted
+    }
+
+    // The first window that crosses an earlier one, as an answer.
+    pub fn nesting_answer(self) -> Answer
+        requires { ⌜ self .count ≤ maxTasks ⌝ }
+        ensures { λ r. ⌜ r ≡ nestingAnswer self ⌝ }
+    {
+        let crossing = self.first_crossing();
+        if crossing < self.count as usize {
+            return Answer::Nesting(crossing);
+        }
+        Answer::Accepted
+    }
+
     // What the windows of a table answer: the first that is reversed, else the first that crosses an earlier one, else nothing refused.
     pub fn window_answer(self) -> Answer
         requires { ⌜ self .count ≤ maxTasks ⌝ }
         ensures { λ r. ⌜ r ≡ windowAnswer self ⌝ }
     {
-        let count = self.count as usize;
-        let reversed = self.first_reversed();
-        if reversed < count {
-            return Answer::Window(reversed);
-        }
-        let crossing = self.first_crossing();
-        if crossing < count {
-            return Answer::Nesting(crossing);
-        }
-        Answer::Accepted
+        let forward = self.forward_answer();
+        let Answer::Accepted = forward else {
+            return forward;
+        };
+        self.nesting_answer()
     }
 }

@@ -11,7 +11,7 @@ use Rattle.schedule.specs.Jobs.{noJob}
 use Rattle.schedule.specs.Runs.{runAt}
 use Rattle.placement.specs.HeldRuns.{runsDown, Held, Room, jobFilled}
 use Rattle.placement.proofs.HeldLaws.{runs-none, column-written}
-use Rattle.placement.proofs.FilledPlaces.{runsFrom, from-none, from-few, held-few, from-next, held-placed}
+use Rattle.placement.proofs.FilledPlaces.{runsFrom, workAt, from-none, from-few, held-few, from-next, held-placed}
 use Rattle.placement.proofs.place.Statement.{statement}
 use Rattle.placement.proofs.place.Tie as tie
 
@@ -22,7 +22,7 @@ Inv-loop count starts ends tasks jobs keeps held-starts₀ held-ends₀ held-tas
     × (span .first ≤ maxTasks)
     × Room held-starts held-ends held-tasks
     × Held span (runAt held-starts held-ends held-tasks)
-    × (runsDown (runAt held-starts held-ends held-tasks) (span .first) (span .end) ≡ runsFrom jobs keeps count i)
+    × (runsDown (runAt held-starts held-ends held-tasks) (span .first) (span .end) ≡ runsFrom jobs (workAt jobs keeps count) count i)
 
 abbrev μ-loop : tie.MeasureT-loop
 μ-loop count starts ends tasks jobs keeps held-starts₀ held-ends₀ held-tasks₀ span₀ i₀ held-starts held-ends held-tasks span i = i
@@ -32,7 +32,7 @@ filled-next : (c : tie.After-work-with Inv-loop μ-loop)
     → let a = c .before .before .before .before .before .before .before .args in
     let l = c .before .before .before .loop in
     jobFilled (l .span) (getD (a .t1) (l .i - 1) noJob) (c .work-with .result) (runAt (l .held-starts) (l .held-ends) (l .held-tasks))
-    ≡ runsFrom (a .t1) (a .t3) (a .count) (l .i - 1)
+    ≡ runsFrom (a .t1) (workAt (a .t1) (a .t3) (a .count)) (a .count) (l .i - 1)
 filled-next c =
     let l = c .before .before .before .loop in
     from-next _ _ _ (l .i) _ _ (omega arith) (l .inv .0) (l .inv .5) (c .work-with .ensures)
@@ -80,7 +80,7 @@ fill-job-requires : tie.Need-fill-job-requires Inv-loop μ-loop
 fill-job-requires c κs =
     let a = c .before .before .before .before .before .before .before .before .before .before .args in
     let l = c .before .before .before .before .before .before .loop in
-    let few = from-few (a .t1) (a .t3) (a .count) (l .i - 1) in
+    let few = from-few (a .t1) (workAt (a .t1) (a .t3) (a .count)) (a .count) (l .i - 1) in
     ((omega arith, l .inv .2), (l .inv .3, (l .inv .4, omega (arith, ap length (filled-next (c .before .before .before))))))
 
 loop-less : tie.Need-loop-less Inv-loop μ-loop
@@ -95,7 +95,7 @@ loop-again c =
 all-held : (c : tie.After-loop Inv-loop μ-loop)
     → let a = c .before .before .before .before .before .args in
     let l = c .before .loop in
-    runsDown (runAt (l .held-starts) (l .held-ends) (l .held-tasks)) (l .span .first) (l .span .end) ≡ runsFrom (a .t1) (a .t3) (a .count) 0
+    runsDown (runAt (l .held-starts) (l .held-ends) (l .held-tasks)) (l .span .first) (l .span .end) ≡ runsFrom (a .t1) (workAt (a .t1) (a .t3) (a .count)) (a .count) 0
 all-held c =
     let done : c .before .loop .i ≡ 0 = omega arith in
     rw done at (c .before .loop .inv .5)
@@ -105,7 +105,7 @@ all-few : (c : tie.After-loop Inv-loop μ-loop) → c .before .loop .span .end -
 all-few c =
     let a = c .before .before .before .before .before .args in
     let l = c .before .loop in
-    held-few (a .t1) (a .t3) (a .count) (runAt (l .held-starts) (l .held-ends) (l .held-tasks)) (l .span .first) (l .span .end) (all-held c)
+    held-few (a .t1) (workAt (a .t1) (a .t3) (a .count)) (a .count) (runAt (l .held-starts) (l .held-ends) (l .held-tasks)) (l .span .first) (l .span .end) (all-held c)
 
 sub-runs : tie.Need-sub-runs Inv-loop μ-loop
 sub-runs c = omega arith

@@ -7,12 +7,13 @@ use native.Mathlib.Omega.{arith}
 use lib.ListN.{getD}
 use Rattle.schedule.specs.Jobs.{noJob}
 use Rattle.schedule.specs.Ticks.{one}
-use Rattle.planner.proofs.MarkLaws.{Marked, marked-start, marked-put, marked-end}
+use Rattle.placement.proofs.PositionLaws.{Put, put-start, put-next}
+use Rattle.planner.proofs.MarkLaws.{marked-end}
 use Rattle.planner.proofs.put_marks.Statement.{statement}
 use Rattle.planner.proofs.put_marks.Tie as tie
 
 abbrev Inv-loop : tie.InvT-loop
-Inv-loop count marks₀ jobs keeps i₀ marks i = (i ≤ count) × Marked (λ k. getD jobs k noJob) (λ k. getD keeps k false) count marks₀ i marks
+Inv-loop count marks₀ jobs keeps i₀ marks i = (i ≤ count) × Put (λ k. getD jobs k noJob) (λ k. one (getD keeps k false)) count marks₀ i marks
 
 abbrev μ-loop : tie.MeasureT-loop
 μ-loop count marks₀ jobs keeps i₀ marks i = count - i
@@ -26,7 +27,7 @@ mark-is : (c : tie.Joined1 Inv-loop μ-loop) → c .if1 .marks ≡ one (getD (c 
 mark-is c = ⊎-elim (λ w. w .1 ∙ sym (ap one (w .0 .taken))) (λ w. w .1 ∙ sym (ap one (w .0 .left))) (c .if1 .came)
 
 loop-holds : tie.Need-loop-holds Inv-loop μ-loop
-loop-holds c = (omega arith, marked-start _ _ _ _ (c .pre .1 .1 .1 .1))
+loop-holds c = (omega arith, put-start _ _ _ _ (c .pre .1 .1 .1 .1))
 
 mul-job : tie.Need-mul-job Inv-loop μ-loop
 mul-job c = omega arith
@@ -52,13 +53,13 @@ loop-less c = omega arith
 loop-again : tie.Need-loop-again Inv-loop μ-loop
 loop-again c =
     let start = c .before .before .before in
-    (omega arith, marked-put _ _ _ _ (start .before .pre .1 .1 .1 .0) (start .before .pre .1 .0) _ _ _ (omega arith) (below (c .before)) (mark-is c) (start .loop .inv .1))
+    (omega arith, put-next _ _ _ _ (start .before .pre .1 .1 .1 .0) (start .before .pre .1 .0) _ _ _ (omega arith) (below (c .before)) (mark-is c) (start .loop .inv .1))
 
 same-length : tie.Need-same-length Inv-loop μ-loop
 same-length c = c .before .loop .inv .1 .length-is
 
 returns : tie.Need-returns Inv-loop μ-loop
-returns c = marked-end _ _ _ _ _ _ (omega arith) (c .before .before .pre .1 .0) (c .before .loop .inv .1)
+returns c = marked-end _ (λ k. getD (c .before .before .args .t2) k false) _ _ _ _ (omega arith) (c .before .before .pre .1 .0) (c .before .loop .inv .1)
 
 pub put-marks-spec : {M : Type 1} → statement M
 put-marks-spec =

@@ -1,0 +1,52 @@
+-- Laws of the best of some candidates: it fits, and no candidate that fits has a lesser key.
+use Prim.Native.Nat.{ℕ}
+use mathlib.Core.Path.{_≡_}
+use mathlib.Core.List.{List, [], _∷_, List·Memᴰ, List·Memᴰ·head, List·Memᴰ·tail}
+use mathlib.Core.Bool.{Bool, true}
+use Rattle.base.specs.Tests.{and}
+use Rattle.base.proofs.TestLaws.{and-left, and-right, pick-cases, and-not-second}
+use Rattle.choice.specs.Choice.{lexLess, better, best}
+use Rattle.choice.proofs.OrderLaws.{LexAtMost, atMost-refl, atMost-trans, less→atMost, notLess→atMost}
+
+module _ {A : Type 0} (fit : A → Bool) (key : A → List ℕ) where
+  -- the better of two fits
+  better-fits : (a b : A) → fit a ≡ true → fit (better fit key a b) ≡ true
+  unfolding better
+  better-fits a b e =
+      pick-cases (λ c. fit c ≡ true) (and (fit b) (lexLess (key b) (key a)))
+      (λ s. and-left (fit b) (lexLess (key b) (key a)) s) (λ s. e)
+
+  -- its key is at most that of the first
+  better-first : (a b : A) → LexAtMost (key (better fit key a b)) (key a)
+  unfolding better
+  better-first a b =
+      pick-cases (λ c. LexAtMost (key c) (key a)) (and (fit b) (lexLess (key b) (key a)))
+      (λ s. less→atMost _ _ (and-right (fit b) (lexLess (key b) (key a)) s))
+      (λ s. atMost-refl (key a))
+
+  -- and, where the second fits, at most that of the second
+  better-second : (a b : A) → fit b ≡ true → LexAtMost (key (better fit key a b)) (key b)
+  unfolding better
+  better-second a b e =
+      pick-cases (λ c. LexAtMost (key c) (key b)) (and (fit b) (lexLess (key b) (key a)))
+      (λ s. atMost-refl (key b))
+      (λ s. notLess→atMost _ _ (and-not-second (fit b) (lexLess (key b) (key a)) s e))
+
+  -- the best of one and of some others fits
+  pub best-fits : (a : A) (bs : List A) → fit a ≡ true → fit (best fit key a bs) ≡ true
+  unfolding best
+  best-fits a [] e = e
+  best-fits a (b ∷ bs) e = best-fits (better fit key a b) bs (better-fits a b e)
+
+  -- its key is at most that of the first
+  best-first : (a : A) (bs : List A) → LexAtMost (key (best fit key a bs)) (key a)
+  unfolding best
+  best-first a [] = atMost-refl (key a)
+  best-first a (b ∷ bs) = atMost-trans _ _ _ (best-first (better fit key a b) bs) (better-first a b)
+
+  -- and at most that of every other that fits
+  pub best-others : (a : A) (bs : List A) (b : A) → List·Memᴰ b bs → fit b ≡ true → LexAtMost (key (best fit key a bs)) (key b)
+  unfolding best
+  best-others a bs b (List·Memᴰ·head {xs = xs} q) e =
+      rw (← q) (atMost-trans _ _ _ (best-first (better fit key a b) xs) (better-second a b e))
+  best-others a bs b (List·Memᴰ·tail {x = x} {xs = xs} m) e = best-others (better fit key a x) xs b m e
