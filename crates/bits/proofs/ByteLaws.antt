@@ -1,16 +1,18 @@
 -- The laws of a field read or put byte by byte: each piece lies within one byte. Assumes nothing.
 use Prim.Native.Nat.{ℕ, zero, suc, _+_, _-_, _*_, _/_, _%_, _^_, _≤_, _<_}
-use mathlib.Core.Path.{_≡_, sym, ap, _∙_}
+use mathlib.Core.Path.{_≡_, refl, sym, ap, _∙_}
 use mathlib.Core.List.{List, _++_}
 use native.Mathlib.Nat.{zero-add, suc-add, add-comm, pow-zero, pow-suc, div-one, one-mul, mod-lt, mod-eq-of-lt}
 use native.Mathlib.Omega.{arith}
 use lib.Arith.{digits-lt}
 use lib.ListN.{length, getD, set}
-use lib.Pow.{low, high, shl-exact, pow-mono, pow-pos, shl-lt, shl-shr, shr-shr, pow-add, mod-pow-add}
+use lib.Pow.{low, high, shl-exact, pow-mono, pow-lt, pow-pos, shl-lt, shl-shr, shr-shr, pow-add, mod-pow-add, mod-mod-pow}
+use lib.Pow as pow
 use lib.Seq.{getD-set-same, set-set}
-use Rattle.bits.specs.Bits.{bitAt, field, bitsOf, putBit, putBits}
-use Rattle.bits.proofs.BitsLaws.{number-add, field-lt, byte-prefix, byte-whole}
-use Rattle.bits.proofs.PackLaws.{putBit-length}
+use Rattle.bits.specs.Bits.{bitAt, field, bitsOf}
+use Rattle.bits.specs.PutBits.{putBit, putBits}
+use Rattle.bits.proofs.BitsLaws.{number-add, field-lt, byte-prefix, byte-whole, bitsOf-length}
+use Rattle.bits.proofs.PackLaws.{putBit-length, putBits-append}
 
 -- A field of v + w bits is its first v bits, then its last w.
 pub field-add : (s : List ℕ) (a v w : ℕ) → field s a (v + w) ≡ field s a v * 2 ^ w + field s (a + v) w
@@ -36,45 +38,77 @@ field-within s a v w x =
     rw (field-add s a (v + w) x, high (field s a (v + w)) x (field-lt s (a + (v + w)) x)) (field-add s a v w) in
     rw front (sym (low (field s a v) w (field-lt s (a + v) w)))
 
--- Three bytes as one number, as it is computed.
-abbrev pub threeBytes : ℕ → ℕ → ℕ → ℕ
-threeBytes a b c = (a * 2 ^ 16) % 4294967296 + (b * 2 ^ 8) % 4294967296 + c
+-- Two fields of w bits, one behind the other, joined as it is computed, are one field.
+pub field-join : (s : List ℕ) (a b w : ℕ) → w ≤ 16 → a + w ≡ b → (field s a w * 2 ^ w) % 4294967296 + field s b w ≡ field s a (w + w)
+field-join s a b w h e = rw (shl-exact w w 32 (field-lt s a w) (omega arith), ← e) (sym (field-add s a w w))
 
--- It fits 32 bits, its parts too.
-pub three-lt : (a b c : ℕ) → a < 256 → b < 256 → c < 256
-    → ((a * 2 ^ 16) % 4294967296 + (b * 2 ^ 8) % 4294967296 < 4294967296) × (threeBytes a b c < 4294967296)
-three-lt a b c l m n = rw (shl-exact {a = a} 8 16 32 l (omega arith), shl-exact {a = b} 8 8 32 m (omega arith)) (omega arith, omega arith)
+-- Two bytes joined so are a field of 16 bits.
+pub two-bytes : (s : List ℕ) (k : ℕ) → getD s k 0 < 256 → getD s (k + 1) 0 < 256 → (getD s k 0 * 2 ^ 8) % 4294967296 + getD s (k + 1) 0 ≡ field s (8 * k) 16
+two-bytes s k l m = rw (← byte-whole s k l, ← byte-whole s (k + 1) m) (field-join s (8 * k) (8 * (k + 1)) 8 (omega arith) (omega arith))
 
--- A field within three bytes.
-pub field-triple : (s : List ℕ) (at w : ℕ) → getD s (at / 8) 0 < 256 → getD s (at / 8 + 1) 0 < 256 → getD s (at / 8 + 2) 0 < 256 → at % 8 + w ≤ 24
-    → field s at w ≡ threeBytes (getD s (at / 8) 0) (getD s (at / 8 + 1) 0) (getD s (at / 8 + 2) 0) / 2 ^ (24 - at % 8 - w) % 2 ^ w
-field-triple s at w l m n h =
-    let k : ℕ = at / 8 in
-    let j : ℕ = at % 8 in
-    let second : 8 * k + 8 ≡ 8 * (k + 1) = omega arith in
-    let third : 8 * (k + 1) + 8 ≡ 8 * (k + 2) = omega arith in
-    let whole : field s (8 * k) 24 ≡ threeBytes (getD s k 0) (getD s (k + 1) 0) (getD s (k + 2) 0) =
-    rw (
-      shl-exact {a = getD s k 0} 8 16 32 l (omega arith),
-      shl-exact {a = getD s (k + 1) 0} 8 8 32 m (omega arith),
-      field-add s (8 * k) 8 16,
-      second,
-      field-add s (8 * (k + 1)) 8 8,
-      third,
-      byte-whole s k l,
-      byte-whole s (k + 1) m,
-      byte-whole s (k + 2) n,
-    )
-    (omega arith) in
-    let wide : j + w + (24 - j - w) ≡ 24 = omega arith in
-    let split : at ≡ 8 * k + j = omega arith in
-    ap (λ x. field s x w) split ∙ rw (wide, whole) at (field-within s (8 * k) j w (24 - j - w))
+-- A field within the 32 bits from byte k on.
+pub field-inside : (s : List ℕ) (k at w : ℕ) → 8 * k ≤ at → at + w ≤ 8 * k + 32 → field s at w ≡ field s (8 * k) 32 / 2 ^ (32 - (at - 8 * k) - w) % 2 ^ w
+field-inside s k at w l h =
+    let v : ℕ = at - 8 * k in
+    let whole : v + w + (32 - v - w) ≡ 32 = omega arith in
+    let split : at ≡ 8 * k + v = omega arith in
+    ap (λ x. field s x w) split ∙ rw whole at (field-within s (8 * k) v w (32 - v - w))
+
+-- A field of at most 32 bits fits 32 bits.
+pub field-small : (s : List ℕ) (a w : ℕ) → w ≤ 32 → field s a w < 4294967296
+field-small s a w h = omega (arith, field-lt s a w, pow-mono {i = w} {j = 32} h)
 
 -- The bits of a value: those of its high part, then those of its low part.
 pub bitsOf-add : (a b v : ℕ) → bitsOf (a + b) v ≡ bitsOf a (v / 2 ^ b) ++ bitsOf b v
 unfolding bitsOf
 bitsOf-add zero b v = rw zero-add
 bitsOf-add (suc a) b v = rw (suc-add, shr-shr v b a, add-comm b a, bitsOf-add a b v)
+
+-- Values with the same low part have the same low bits.
+bitsOf-low : (b v w : ℕ) → v % 2 ^ b ≡ w % 2 ^ b → bitsOf b v ≡ bitsOf b w
+unfolding bitsOf
+bitsOf-low zero v w e = refl
+bitsOf-low (suc b) v w e =
+    let up : suc b ≡ 1 + b = omega arith in
+    let same : v % 2 ^ (1 + b) ≡ w % 2 ^ (1 + b) = rw up at e in
+    let digit : v / 2 ^ b % 2 ≡ w / 2 ^ b % 2 = sym (pow.field v 1 b) ∙ ap (λ x. x / 2 ^ b) same ∙ pow.field w 1 b in
+    let rest : v % 2 ^ b ≡ w % 2 ^ b = sym (mod-mod-pow v 1 b) ∙ ap (λ x. x % 2 ^ b) same ∙ mod-mod-pow w 1 b in
+    rw (digit, bitsOf-low b v w rest)
+
+-- The bits of two values that are joined in one: those of the one, then those of the other.
+bitsOf-join : (a b x y : ℕ) → bitsOf (a + b) (x * 2 ^ b + y % 2 ^ b) ≡ bitsOf a x ++ bitsOf b y
+bitsOf-join a b x y =
+    let fits : y % 2 ^ b < 2 ^ b = mod-lt y (pow-pos b) in
+    let same : (x * 2 ^ b + y % 2 ^ b) % 2 ^ b ≡ y % 2 ^ b = low x b fits in
+    rw (bitsOf-add a b (x * 2 ^ b + y % 2 ^ b), high x b fits, bitsOf-low b (x * 2 ^ b + y % 2 ^ b) y same)
+
+-- So with the bits of more values, joined already.
+pub bitsOf-behind : (a b x y : ℕ) (front : List ℕ) → bitsOf a x ≡ front → bitsOf (a + b) (x * 2 ^ b + y % 2 ^ b) ≡ front ++ bitsOf b y
+bitsOf-behind a b x y front e = bitsOf-join a b x y ∙ ap (λ l. l ++ bitsOf b y) e
+
+-- Bits of a value that are put, and the rest of them put behind.
+pub put-more : (out next : List ℕ) (at left count value : ℕ) → count ≤ left → next ≡ putBits out at (bitsOf count (value / 2 ^ (left - count)))
+    → putBits next (at + count) (bitsOf (left - count) value) ≡ putBits out at (bitsOf left value)
+put-more out next at left count value h put =
+    let first : List ℕ = bitsOf count (value / 2 ^ (left - count)) in
+    let rest : List ℕ = bitsOf (left - count) value in
+    let size : length first ≡ count = bitsOf-length count (value / 2 ^ (left - count)) in
+    let all : left ≡ count + (left - count) = omega arith in
+    rw put (sym (ap (λ n. putBits out at (bitsOf n value)) all ∙ ap (putBits out at) (bitsOf-add count (left - count) value)
+    ∙ putBits-append out at first rest ∙ ap (λ n. putBits (putBits out at first) (at + n) rest) size))
+
+-- Where no bits are left to put, it is all one where they would go.
+put-where : (s : List ℕ) (a b w v : ℕ) → (0 < w → a ≡ b) → putBits s a (bitsOf w v) ≡ putBits s b (bitsOf w v)
+unfolding putBits bitsOf
+put-where s a b zero v h = refl
+put-where s a b (suc w) v h = rw (h (omega arith))
+
+-- The same where the rest, if there is any, begins with a byte.
+pub put-on : (out next : List ℕ) (at left count value : ℕ) → count ≤ left → (0 < left - count → 8 * ((at + count) / 8) ≡ at + count)
+    → next ≡ putBits out at (bitsOf count (value / 2 ^ (left - count)))
+    → putBits next (8 * ((at + count) / 8)) (bitsOf (left - count) value) ≡ putBits out at (bitsOf left value)
+put-on out next at left count value h whole put =
+    put-where next (8 * ((at + count) / 8)) (at + count) (left - count) value whole ∙ put-more out next at left count value h put
 
 -- The byte with `w` low bits of v behind the first bits of byte a / 8.
 abbrev pub pieceByte : List ℕ → ℕ → ℕ → ℕ → ℕ
@@ -128,13 +162,23 @@ putBits-piece (suc w) s a v inside h =
     putBits-piece w t (suc a) v (omega (arith, putBit-length s a b)) (omega arith)
     ∙ ap (λ i. set t i (pieceByte t (suc a) (suc w) v)) same ∙ ap (set t (a / 8)) byte ∙ set-set s (a / 8) _ _
 
--- A power of two that fits 32 bits.
-pub one-shl : (w : ℕ) → w ≤ 24 → (1 * 2 ^ w) % 4294967296 ≡ 2 ^ w
-one-shl w h = rw one-mul (mod-eq-of-lt (omega (arith, pow-mono {i = w} {j = 24} h)))
+-- A power of two that fits m bits.
+pub one-shl : (w m : ℕ) → w < m → (1 * 2 ^ w) % 2 ^ m ≡ 2 ^ w
+one-shl w m h = rw one-mul (mod-eq-of-lt (pow-lt h))
 
 -- It is not 0.
-pub one-shl-pos : (w : ℕ) → w ≤ 24 → 0 < (1 * 2 ^ w) % 4294967296
-one-shl-pos w h = rw (one-shl w h) (pow-pos w)
+pub one-shl-pos : (w m : ℕ) → w < m → 0 < (1 * 2 ^ w) % 2 ^ m
+one-shl-pos w m h = rw (one-shl w m h) (pow-pos w)
+
+-- A value joined with the low bits of another, as it is computed, where both fit 64 bits.
+pub join-is : (x y w : ℕ) → w ≤ 32 → x < 2 ^ (64 - w) → (x * 2 ^ w) % 18446744073709551616 + y % (1 * 2 ^ w % 18446744073709551616) ≡ x * 2 ^ w + y % 2 ^ w
+join-is x y w h fits = rw (one-shl w 64 (omega arith), shl-exact (64 - w) w 64 fits (omega arith))
+
+-- So does what they come to.
+pub join-lt : (x y w : ℕ) → w ≤ 32 → x < 2 ^ (64 - w) → x * 2 ^ w + y % 2 ^ w < 18446744073709551616
+join-lt x y w h fits =
+    let whole : 64 - w + w ≡ 64 = omega arith in
+    rw (← pow-add 2 (64 - w) w, whole) at (digits-lt fits (mod-lt y (pow-pos w)))
 
 module _ (s : List ℕ) (a w v byte : ℕ) (here : byte ≡ getD s (a / 8) 0) (small : byte < 256) (h : a % 8 + w ≤ 8) where
   -- The bits of the byte before bit a.
@@ -143,7 +187,7 @@ module _ (s : List ℕ) (a w v byte : ℕ) (here : byte ≡ getD s (a / 8) 0) (s
 
   -- The byte's bits before a, and the new ones behind them, as they are computed.
   abbrev pub joined : ℕ
-  joined = (byte / 2 ^ (8 - a % 8 - w) / 2 ^ w * 2 ^ w) % 4294967296 + v % (1 * 2 ^ w % 4294967296)
+  joined = (byte / 2 ^ (8 - a % 8 - w) / 2 ^ w * 2 ^ w) % 18446744073709551616 + v % (1 * 2 ^ w % 18446744073709551616)
 
   -- What is kept of the byte is the field of its earlier bits.
   kept-field : byte / 2 ^ (8 - a % 8 - w) / 2 ^ w ≡ before
@@ -153,7 +197,7 @@ module _ (s : List ℕ) (a w v byte : ℕ) (here : byte ≡ getD s (a / 8) 0) (s
 
   -- Nothing is lost where they are joined.
   joined-is : joined ≡ before * 2 ^ w + v % 2 ^ w
-  joined-is = rw (kept-field, one-shl w (omega arith), shl-exact (a % 8) w 32 (field-lt s (8 * (a / 8)) (a % 8)) (omega arith))
+  joined-is = rw (kept-field, one-shl w 64 (omega arith), shl-exact (a % 8) w 64 (field-lt s (8 * (a / 8)) (a % 8)) (omega arith))
 
   -- They take no more bits than they have.
   joined-lt : joined < 2 ^ (a % 8 + w)
@@ -170,7 +214,7 @@ module _ (s : List ℕ) (a w v byte : ℕ) (here : byte ≡ getD s (a / 8) 0) (s
       rw whole at (shl-lt (a % 8 + w) (8 - a % 8 - w) joined-lt)
 
   -- and the byte that is stored is the one that holds the piece.
-  pub stored : (joined * 2 ^ (8 - a % 8 - w)) % 4294967296 ≡ pieceByte s a w v
+  pub stored : (joined * 2 ^ (8 - a % 8 - w)) % 18446744073709551616 ≡ pieceByte s a w v
   stored =
       let up : 8 - a % 8 ≡ w + (8 - a % 8 - w) = omega arith in
       let power : 2 ^ (8 - a % 8) ≡ 2 ^ w * 2 ^ (8 - a % 8 - w) = ap (λ x. 2 ^ x) up ∙ pow-add 2 w (8 - a % 8 - w) in

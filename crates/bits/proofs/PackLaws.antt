@@ -8,7 +8,8 @@ use native.Mathlib.Decide.{decLe, ℕ-discrete}
 use native.Mathlib.Omega.{arith}
 use lib.ListN.{length, getD, drop, length-append, length-drop, length-set, List·getD-append}
 use lib.Seq.{append-snoc, ext-getD, getD-append-add, getD-drop, getD-set-other, getD-set-same}
-use Rattle.bits.specs.Bits.{Bit, bitAt, number, field, bitIn, bytesFrom, bytesFor, pack, putBit, putBits}
+use Rattle.bits.specs.Bits.{Bit, bitAt, number, field, bitIn, bytesFrom, bytesFor, pack}
+use Rattle.bits.specs.PutBits.{putBit, putBits}
 use Rattle.bits.proofs.BitsLaws.{number-ext, number-add, number-zero, bitIn-left, bitIn-right, bitIn-end, bitIn-one, bitIn-append-le, pack-length, pack-at, pack-bit}
 
 -- A bit put into a byte string keeps the string's length.

@@ -1,7 +1,7 @@
 -- Bit-packed fields of a byte string, most significant bit first.
 use Prim.Native.Nat.{ℕ, zero, suc, _+_, _-_, _*_, _/_, _%_, _^_, _≤_, _<_}
 use mathlib.Core.List.{List, [], _∷_}
-use lib.ListN.{length, getD, set}
+use lib.ListN.{length, getD}
 
 -- every number of the list is a byte
 abbrev pub Bytes : List ℕ → Type 0
@@ -45,12 +45,3 @@ bytesFor bits = (bits + 7) / 8
 -- bits packed into bytes; the rest of the last byte is zero
 unfoldable pub pack : List ℕ → List ℕ
 pack bits = bytesFrom (bitIn bits) 0 (bytesFor (length bits))
-
--- a byte string with bit k set to `bit`: the earlier bits of its byte stay, and the later ones are zero
-unfoldable pub putBit : List ℕ → ℕ → ℕ → List ℕ
-putBit s k bit = set s (k / 8) (field s (8 * (k / 8)) (k % 8) * 2 ^ (8 - k % 8) + bit * 2 ^ (7 - k % 8))
-
--- a byte string with bits put one after another, the first at bit `start`
-unfoldable pub putBits : List ℕ → ℕ → List ℕ → List ℕ
-putBits s start [] = s
-putBits s start (bit ∷ bits) = putBits (putBit s start bit) (suc start) bits

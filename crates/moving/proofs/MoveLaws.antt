@@ -9,7 +9,7 @@ use lib.IntN.{ℤ}
 use lib.ListN.{length, drop}
 use borrow.Author.Tests.{lt-ltb, le-ltb}
 use Rattle.base.specs.Limits.{maxTasks}
-use Rattle.base.proofs.LowestLaws.{before, within}
+use Rattle.base.proofs.LowestLaws.{before, lowest-bound}
 use Rattle.table.specs.declared.Task.{Task}
 use Rattle.table.specs.declared.Table.{Table}
 use Rattle.table.specs.declared.Written.{Written}
@@ -18,11 +18,10 @@ use Rattle.table.specs.Tables.{noTask, taskAt, tableOf}
 use Rattle.table.specs.Layout.{fileLength}
 use Rattle.table.specs.Answers.{numberOf, placeOf, isAccepted, declined, wrote}
 use Rattle.table.specs.Reading.{tableIn, readAnswer}
-use Rattle.base.specs.Lent.{contentAfter}
 use Rattle.table.specs.Writing.{fileOf}
 use Rattle.table.specs.Moving.{movedTask, movedOutside, firstOutside, movedTable, moveReply, movedOver}
-use Rattle.base.proofs.Filling.{Filled, filled-whole}
-use Rattle.table.proofs.FileLaws.{fileOf-length}
+use Rattle.base.proofs.ArrayFilling.{Filled, filled-whole}
+use Rattle.table.proofs.ContentLaws as content
 
 -- where the search for a task outside ends at the count, no task is outside
 pub none-outside : (shift : ℤ) (t : Table) (k : ℕ) → firstOutside shift t ≡ t .count → k < t .count → movedOutside shift (taskAt t k) ≡ false
@@ -39,8 +38,8 @@ moved-filled shift t m i tasks l f c e d s =
 -- a refusal leaves the list as it was
 pub refused-keeps : (s : List ℕ) (shift : ℤ) (out : List ℕ) (reply : Written) → reply ≡ moveReply s shift (length out) → eqb (reply .number) 0 ≡ false
     → out ≡ movedOver s shift out
-unfolding movedOver contentAfter
-refused-keeps s shift out reply e n = rw (← e, n)
+unfolding movedOver
+refused-keeps s shift out reply e n = content.refused-keeps _ reply _ out e n
 
 module _ (s : List ℕ) (shift : ℤ) (room : ℕ) where
   pub read-refused : isAccepted (readAnswer s) ≡ false → declined (numberOf (readAnswer s)) (placeOf (readAnswer s)) ≡ moveReply s shift room
@@ -64,13 +63,11 @@ module _ (s : List ℕ) (shift : ℤ) (room : ℕ) where
 -- the search for a task outside ends at the count at the latest
 pub inside-all : (shift : ℤ) (t : Table) → t .count ≤ firstOutside shift t → firstOutside shift t ≡ t .count
 unfolding firstOutside
-inside-all shift t l = omega (arith, within (λ k. movedOutside shift (taskAt t k)) (t .count))
+inside-all shift t l = omega (arith, lowest-bound (λ k. movedOutside shift (taskAt t k)) (t .count))
 
 -- an acceptance leaves the file of the moved table, and beyond it what stood there
 pub accepted-leaves : (s : List ℕ) (shift : ℤ) (out after : List ℕ) (u : Table) → wrote (length s) ≡ moveReply s shift (length out)
     → u ≡ movedTable shift (tableIn s) → after ≡ fileOf u ++ drop (fileLength (u .count)) out → after ≡ movedOver s shift out
-unfolding movedOver contentAfter
+unfolding movedOver
 accepted-leaves s shift out after u e m a =
-    a
-    ∙ (ap (λ (t : Table). fileOf t ++ drop (fileLength (t .count)) out) m
-    ∙ rw (← e, fileOf-length (movedTable shift (tableIn s))))
+    content.accepted-leaves _ (movedTable shift (tableIn s)) _ out after e (a ∙ ap (λ (t : Table). fileOf t ++ drop (fileLength (t .count)) out) m)

@@ -1,5 +1,5 @@
 -- A frame and a signed shift added in 64 bits: nothing wraps, and what the bits say is the sum.
-use Prim.Native.Nat.{ℕ, suc, _+_, _-_, _^_, _≤_, _<_}
+use Prim.Native.Nat.{ℕ, suc, _+_, _^_, _≤_, _<_}
 use mathlib.Core.Path.{_≡_, refl, ap, ap₂, _∙_}
 use mathlib.Core.Bool.{true, false}
 use native.Mathlib.Omega.{arith}
@@ -10,6 +10,7 @@ use borrow.Author.Tests.{ltb-true, ltb-false}
 use mir.Syntax.{w32, w64}
 use mir.Val.{SFits, Fits, toZ, ofZ}
 use mir.Facts.{toZ-ofZ, toZ-pos, sfits-widen}
+use Rattle.base.specs.Limits.{lastFrame}
 use Rattle.base.proofs.TestLaws.{cases, both-absurd}
 use Rattle.table.specs.Moving.{outside, frameOf, movedFrame}
 use Rattle.moving.specs.declared.Moved.the-variants.{Frame, Outside}
@@ -46,7 +47,7 @@ below-outside (pos n) e = absurd (omega (arith, ltb-true n 0 e))
 below-outside (negsuc n) e = refl
 
 -- above the last frame it is outside
-pub above-outside : (m : ℤ) → ltZ (pos 131071) m ≡ true → movedAs m ≡ Outside
+pub above-outside : (m : ℤ) → ltZ (pos lastFrame) m ≡ true → movedAs m ≡ Outside
 above-outside (pos n) e = rw e
 above-outside (negsuc n) e = both-absurd false e refl
 
@@ -56,9 +57,9 @@ pub record Inside (m : ℤ) : Type 0 where
   pub not-negative : T (nonNeg m)
   pub fits : Fits w32 (natAbs m)
 
-pub inside : (m : ℤ) → ltZ m (pos 0) ≡ false → ltZ (pos 131071) m ≡ false → Inside m
+pub inside : (m : ℤ) → ltZ m (pos 0) ≡ false → ltZ (pos lastFrame) m ≡ false → Inside m
 inside (pos n) l h =
-    record { as-frame = rw h; not-negative = tt; fits = record { fits = omega (arith, ltb-false 131071 n h) } }
+    record { as-frame = rw h; not-negative = tt; fits = record { fits = omega (arith, ltb-false lastFrame n h) } }
 inside (negsuc n) l h = both-absurd true refl l
 
 -- what each case of a moved frame tells

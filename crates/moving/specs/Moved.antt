@@ -1,4 +1,4 @@
--- Where a moved frame comes to lie, as the code's enum has it.
+-- For the proofs of moving's code alone: where a moved frame comes to lie, as the code's enum has it.
 use lib.IntN.{ℤ}
 use Rattle.base.specs.Tests.{pick}
 use Rattle.table.specs.Moving.{outside, frameOf}

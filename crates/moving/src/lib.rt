@@ -4,7 +4,6 @@ ghost use mathlib.Core.Bool.{false};
 ghost use Prim.Native.Nat.{_≤_};
 ghost use lib.ListN.{length};
 ghost use Rattle.base.specs.Limits.{maxTasks};
-ghost use Rattle.table.specs.Tables.{taskAt};
 ghost use Rattle.table.specs.Moving.{outside, frameOf, movedFrame, movedTask, movedOutside, firstOutside, movedTable, moveReply, movedOver};
 ghost use Rattle.moving.specs.Moved.{movedAs};
 use base::LAST_FRAME;

@@ -1,18 +1,27 @@
 -- From what the parts of reading answer to the reply of the whole.
-use Prim.Native.Nat.{ℕ}
-use mathlib.Core.Path.{_≡_, ap, _∙_}
+use Prim.Native.Nat.{ℕ, _+_, _*_, _≤_, _<_}
+use mathlib.Core.Path.{_≡_, sym, ap, _∙_}
 use mathlib.Core.Bool.{false}
 use mathlib.Core.List.{List}
 use lib.Dec.{ltb}
+use native.Mathlib.Omega.{arith}
+use native.Mathlib.Decide.{ℕ-discrete}
+use lib.ListN.{length, set, take, drop, length-set}
+use lib.Seq.{getD-set-same, getD-set-other, getD-take, getD-drop}
 use Rattle.base.specs.Limits.{maxTasks}
 use Rattle.base.specs.Tests.{pick}
 use Rattle.base.specs.Places.{places}
+use Rattle.table.specs.declared.Task.{Task}
 use Rattle.table.specs.declared.Table.{Table}
 use Rattle.table.specs.declared.Reading.{Reading}
 use Rattle.table.specs.declared.Answer.the-variants.{Accepted}
-use Rattle.table.specs.Tables.{noTask, noTable, tableOf}
+use Rattle.table.specs.Tables.{noTask, noTable, taskAt, tableOf}
 use Rattle.table.specs.Answers.{isAccepted}
 use Rattle.table.specs.Windows.{windowAnswer}
+use Rattle.table.specs.WindowColumns.{columnsAnswer}
+use Rattle.reading.specs.Frames.{FramesIn}
+use Rattle.table.proofs.TableLaws.{taskAt-below}
+use Rattle.table.proofs.WindowLaws.{answer-columns}
 use Rattle.table.specs.Reading.{countIn, pIn, qIn, taskIn, tableIn, headAnswer, readAnswer, reading}
 
 -- the header's numbers and the tasks that were taken make the table of the file
@@ -20,6 +29,36 @@ pub table-taken : (s : List ℕ) (count : ℕ) (t : Table) → count ≡ countIn
     → t .tasks ≡ places (λ k. pick (ltb k count) (taskIn s k) noTask) maxTasks → t ≡ tableIn s
 unfolding tableIn tableOf
 table-taken s count t c d e f tasks = λ i. record { count = (d ∙ c) i; p = e i; q = f i; tasks = (tasks ∙ ap (λ n. places (λ k. pick (ltb k n) (taskIn s k) noTask) maxTasks) c) i }
+
+-- the frames of one task more
+pub frames-more : (task : ℕ → Task) (i : ℕ) (frames : List ℕ) (release deadline : ℕ) → i < maxTasks → length frames ≡ 2 * maxTasks
+    → release ≡ task i .release → deadline ≡ task i .deadline → FramesIn task i frames
+    → FramesIn task (i + 1) (set (set frames i release) (maxTasks + i) deadline)
+frames-more task i frames release deadline l size r d held k m =
+    let once : List ℕ = set frames i release in
+    elim (ℕ-discrete k i) [
+      | yes e ↦ rw e (
+        getD-set-other once (maxTasks + i) i deadline 0 (omega arith) ∙ (getD-set-same frames i release 0 (omega arith) ∙ r),
+        getD-set-same once (maxTasks + i) deadline 0 (rw (length-set frames i release) (omega arith)) ∙ d,
+      )
+      | no other ↦
+          let old = held k (omega arith) in (
+            getD-set-other once (maxTasks + i) k deadline 0 (omega arith) ∙ (getD-set-other frames i k release 0 other ∙ old .0),
+            getD-set-other once (maxTasks + i) (maxTasks + k) deadline 0 (omega arith) ∙ (getD-set-other frames i (maxTasks + k) release 0 (omega arith) ∙ old .1),
+          )
+    ]
+
+-- what the windows of the frames that were taken answer is what those of the file's table answer
+pub windows-taken : (s : List ℕ) (count : ℕ) (frames : List ℕ) → countIn s ≤ maxTasks → count ≡ countIn s → FramesIn (taskIn s) (countIn s) frames
+    → columnsAnswer (take maxTasks frames) (drop maxTasks frames) count ≡ windowAnswer (tableIn s)
+unfolding tableIn tableOf
+windows-taken s count frames few c held =
+    ap (columnsAnswer (take maxTasks frames) (drop maxTasks frames)) c
+    ∙ answer-columns (tableIn s) (take maxTasks frames) (drop maxTasks frames) (λ k l.
+    let same : taskIn s k ≡ taskAt (tableIn s) k = sym (taskAt-below (countIn s) (pIn s) (qIn s) (taskIn s) k few l) in (
+      getD-take maxTasks frames k 0 (omega arith) ∙ (held k l .0 ∙ ap (λ (task : Task). task .release) same),
+      getD-drop maxTasks frames k 0 ∙ (held k l .1 ∙ ap (λ (task : Task). task .deadline) same),
+    ))
 
 -- a reply is known by its answer and its table
 reply-is : (r : Reading) (s : List ℕ) → r .answer ≡ readAnswer s → r .table ≡ pick (isAccepted (readAnswer s)) (tableIn s) noTable → r ≡ reading s

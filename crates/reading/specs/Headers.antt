@@ -1,4 +1,4 @@
--- What the code holds of a file's header.
+-- For the proofs of reading's code alone: what the code holds of a file's header.
 use Prim.Native.Nat.{ℕ}
 use mathlib.Core.Path.{_≡_}
 use mathlib.Core.List.{List}

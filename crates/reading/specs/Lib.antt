@@ -1,1 +1,2 @@
 pub mod Headers
+pub mod Frames

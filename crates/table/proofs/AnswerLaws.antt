@@ -15,7 +15,7 @@ use denote.Enum.Declared.{tagOf}
 use Rattle.table.specs.declared.Answer.{Answer}
 use Rattle.table.specs.declared.Answer.the-variants.{Accepted, Short, Count, Long, Padding, Period, Window, Nesting}
 use Rattle.table.specs.declared.Written.{Written}
-use Rattle.table.specs.Answers.{numberOf, placeOf, isAccepted, inOrder, refusedAt, declined}
+use Rattle.table.specs.Answers.{numberOf, placeOf, isAccepted, firstRefusal, refusedAt, declined}
 use Rattle.table.proofs.Answer.{the-type}
 
 -- the tag of a case that is not `Accepted`
@@ -59,21 +59,21 @@ accepted-is (Window position) e = both-absurd false e refl
 accepted-is (Nesting position) e = both-absurd false e refl
 
 -- where two answers in order refuse nothing, neither does
-pub inOrder-known : (a b : Answer) → inOrder a b ≡ Accepted → (a ≡ Accepted) × (b ≡ Accepted)
-inOrder-known a b e =
+pub firstRefusal-known : (a b : Answer) → firstRefusal a b ≡ Accepted → (a ≡ Accepted) × (b ≡ Accepted)
+firstRefusal-known a b e =
     cases (isAccepted a)
     (λ t. (accepted-is a t, rw t at e))
     (λ f. both-absurd (isAccepted a) (ap isAccepted (rw f at e)) f)
 
 -- where neither refuses, nothing is refused
-pub inOrder-test : (a b : Answer) → a ≡ Accepted → b ≡ Accepted → inOrder a b ≡ Accepted
-inOrder-test a b e f = rw (e, f)
+pub firstRefusal-test : (a b : Answer) → a ≡ Accepted → b ≡ Accepted → firstRefusal a b ≡ Accepted
+firstRefusal-test a b e f = rw (e, f)
 
 -- what a call answers that asks for one answer after the other
-pub first-refuses : (a b : Answer) → isAccepted a ≡ false → a ≡ inOrder a b
+pub first-refuses : (a b : Answer) → isAccepted a ≡ false → a ≡ firstRefusal a b
 first-refuses a b e = rw e
 
-pub first-accepts : (a b r : Answer) → a ≡ Accepted → r ≡ b → r ≡ inOrder a b
+pub first-accepts : (a b r : Answer) → a ≡ Accepted → r ≡ b → r ≡ firstRefusal a b
 first-accepts a b r e f = rw e f
 
 -- a reply that has the number 0 after an answer: the answer refuses nothing, and so does what follows it

@@ -6,3 +6,4 @@ pub mod TableKinds
 pub mod FileLaws
 pub mod RoundTrip
 pub mod PrefixLaws
+pub mod ContentLaws

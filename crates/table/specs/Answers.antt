@@ -42,8 +42,8 @@ isAccepted (Window position) = false
 isAccepted (Nesting position) = false
 
 -- what two answers come to, one after the other: the first where it refuses, and else the second
-abbrev pub inOrder : Answer → Answer → Answer
-inOrder first second = pick (isAccepted first) second first
+abbrev pub firstRefusal : Answer → Answer → Answer
+firstRefusal first second = pick (isAccepted first) second first
 
 -- the refusal that names the lowest position below n that passes a test; where none does, nothing is refused
 abbrev pub refusedAt : (ℕ → Answer) → (ℕ → Bool) → ℕ → Answer

@@ -5,9 +5,10 @@ ghost use Prim.Native.Nat.{_≤_};
 ghost use lib.ListN.{length, getD};
 ghost use Rattle.base.specs.Limits.{maxTasks};
 ghost use Rattle.base.specs.Lowest.{lowest, someBelow};
-ghost use Rattle.table.specs.Tables.{noTask, noTable, tableOf, taskAt};
+ghost use Rattle.table.specs.Tables.{noTask, noTable, tableOf};
 ghost use Rattle.table.specs.Answers.{numberOf, placeOf, declined, wrote};
-ghost use Rattle.table.specs.Windows.{reversed, contains, nested, windowAt, crosses, forwardAnswer, nestingAnswer, windowAnswer};
+ghost use Rattle.table.specs.Windows.{reversed, contains, nested, windowAnswer};
+ghost use Rattle.table.specs.WindowColumns.{columnCrosses, columnForward, columnNesting, columnsAnswer, windowAt};
 ghost use Rattle.table.specs.Layout.{badCount, badPeriod, widestRow, rowsLength, fileLength};
 use base::MAX_PERIOD;
 use base::MAX_TASKS;
@@ -25,6 +26,9 @@ pub const TICKS_WIDTH: usize = 14;
 pub const HEADER_WIDTH: usize = COUNT_WIDTH + 2 * PERIOD_WIDTH;
 
 pub const TASK_WIDTH: usize = 2 * FRAME_WIDTH + 2 * TICKS_WIDTH;
+
+// The most bytes of a file: those of as many tasks as a table has places. Definitions say maxFile.
+pub const MAX_FILE: usize = (HEADER_WIDTH + TASK_WIDTH * MAX_TASKS + 7) / 8;
 
 // A task: its window in frames, and its two lengths in ticks.
 #[repr(C)]
@@ -197,21 +201,22 @@ fn is_reversed(task: Task) -> bool
 fn window_contains(a: Task, b: Task) -> bool
     ensures { λ r. ⌜ r ≡ contains a b ⌝ }
 {
-    a.release <= b.release && b.deadline <= a.deadline
+    (a.release <= b.release) & (b.deadline <= a.deadline)
 }
 
 // One of two windows contains the other.
 fn are_nested(a: Task, b: Task) -> bool
     ensures { λ r. ⌜ r ≡ nested a b ⌝ }
 {
-    window_contains(a, b) || window_contains(b, a)
+    window_contains(a, b) | window_contains(b, a)
 }
 
-// The window of a task is not nested with some of the first `count` windows that stand in two columns.
+// The window of a task is not nested with some of the first `count` windows that stand in two columns. All of them are looked at, without a branch.
 fn crosses_earlier(task: Task, releases: &[u32], deadlines: &[u32], count: usize) -> bool
     requires { ⌜ (count ≤ length (now releases)) × (count ≤ length (now deadlines)) ⌝ }
     ensures { λ r. ⌜ r ≡ someBelow (λ j. not (nested (windowAt (now (releases .entry)) (now (deadlines .entry)) j) task)) count ⌝ }
 {
+    let mut crossing = false;
     let mut j: usize = 0;
     while j < count {
         let earlier = Task {
@@ -220,12 +225,89 @@ fn crosses_earlier(task: Task, releases: &[u32], deadlines: &[u32], count: usize
             mandatory: 0,
             optional: 0,
         };
-        if !are_nested(earlier, task) {
-            return true;
-        }
+        crossing = crossing | !are_nested(earlier, task);
         j += 1;
     }
-    false
+    crossing
+}
+
+// The lowest position below the count whose window is reversed, of windows that stand in two columns, and the count where none is.
+fn first_reversed(releases: &[u32], deadlines: &[u32], count: usize) -> usize
+    requires { ⌜ (count ≤ length (now releases)) × (count ≤ length (now deadlines)) ⌝ }
+    ensures { λ r. ⌜ r ≡ lowest (λ k. reversed (windowAt (now (releases .entry)) (now (deadlines .entry)) k)) count ⌝ }
+{
+    let mut k: usize = 0;
+    while k < count {
+        let window = Task {
+            release: releases[k],
+            deadline: deadlines[k],
+            mandatory: 0,
+            optional: 0,
+        };
+        if is_reversed(window) {
+            return k;
+        }
+        k += 1;
+    }
+    k
+}
+
+// The lowest position below the count whose window is not nested with that of some earlier one, of windows that stand in two columns, and the
+// count where there is none.
+fn first_crossing(releases: &[u32], deadlines: &[u32], count: usize) -> usize
+    requires { ⌜ (count ≤ length (now releases)) × (count ≤ length (now deadlines)) ⌝ }
+    ensures { λ r. ⌜ r ≡ lowest (columnCrosses (now (releases .entry)) (now (deadlines .entry))) count ⌝ }
+{
+    let mut k: usize = 0;
+    while k < count {
+        let window = Task {
+            release: releases[k],
+            deadline: deadlines[k],
+            mandatory: 0,
+            optional: 0,
+        };
+        if crosses_earlier(window, releases, deadlines, k) {
+            return k;
+        }
+        k += 1;
+    }
+    k
+}
+
+// The first of the windows in two columns that is reversed, as an answer.
+pub fn forward_answer(releases: &[u32], deadlines: &[u32], count: usize) -> Answer
+    requires { ⌜ (count ≤ length (now releases)) × (count ≤ length (now deadlines)) ⌝ }
+    ensures { λ r. ⌜ r ≡ columnForward (now (releases .entry)) (now (deadlines .entry)) count ⌝ }
+{
+    let reversed = first_reversed(releases, deadlines, count);
+    if reversed < count {
+        return Answer::Window(reversed);
+    }
+    Answer::Accepted
+}
+
+// The first of the windows in two columns that crosses an earlier one, as an answer.
+pub fn nesting_answer(releases: &[u32], deadlines: &[u32], count: usize) -> Answer
+    requires { ⌜ (count ≤ length (now releases)) × (count ≤ length (now deadlines)) ⌝ }
+    ensures { λ r. ⌜ r ≡ columnNesting (now (releases .entry)) (now (deadlines .entry)) count ⌝ }
+{
+    let crossing = first_crossing(releases, deadlines, count);
+    if crossing < count {
+        return Answer::Nesting(crossing);
+    }
+    Answer::Accepted
+}
+
+// What the windows in two columns answer: the first that is reversed, else the first that crosses an earlier one, else nothing refused.
+pub fn columns_answer(releases: &[u32], deadlines: &[u32], count: usize) -> Answer
+    requires { ⌜ (count ≤ length (now releases)) × (count ≤ length (now deadlines)) ⌝ }
+    ensures { λ r. ⌜ r ≡ columnsAnswer (now (releases .entry)) (now (deadlines .entry)) count ⌝ }
+{
+    let forward = forward_answer(releases, deadlines, count);
+    let Answer::Accepted = forward else {
+        return forward;
+    };
+    nesting_answer(releases, deadlines, count)
 }
 
 impl Table {
@@ -265,28 +347,11 @@ impl Table {
         Table::new(0, 0, 0, [NO_TASK; MAX_TASKS])
     }
 
-    // The lowest position whose window is reversed, and the task count where none is.
-    fn first_reversed(self) -> usize
+    // What the windows of a table answer: the first that is reversed, else the first that crosses an earlier one, else nothing refused. Their frames
+    // are put in two columns, so that the searches need not be lent the table.
+    pub fn window_answer(self) -> Answer
         requires { ⌜ self .count ≤ maxTasks ⌝ }
-        ensures { λ r. ⌜ r ≡ lowest (λ k. reversed (taskAt self k)) (self .count) ⌝ }
-    {
-        let count = self.count as usize;
-        let mut k: usize = 0;
-        while k < count {
-            let task = self.tasks[k];
-            if is_reversed(task) {
-                return k;
-            }
-            k += 1;
-        }
-        k
-    }
-
-    // The lowest position whose window is not nested with that of some earlier one, and the task count where there is none. The windows that were
-    // passed stand in two columns, so that the inner search need not be lent the table.
-    fn first_crossing(self) -> usize
-        requires { ⌜ self .count ≤ maxTasks ⌝ }
-        ensures { λ r. ⌜ r ≡ lowest (crosses self) (self .count) ⌝ }
+        ensures { λ r. ⌜ r ≡ windowAnswer self ⌝ }
     {
         let mut releases = [0u32; MAX_TASKS];
         let mut deadlines = [0u32; MAX_TASKS];
@@ -294,49 +359,10 @@ impl Table {
         let mut k: usize = 0;
         while k < count {
             let task = self.tasks[k];
-            if crosses_earlier(task, &releases, &deadlines, k) {
-                return k;
-            }
             releases[k] = task.release;
             deadlines[k] = task.deadline;
             k += 1;
         }
-        k
-    }
-
-    // The first window that is reversed, as an answer.
-    pub fn forward_answer(self) -> Answer
-        requires { ⌜ self .count ≤ maxTasks ⌝ }
-        ensures { λ r. ⌜ r ≡ forwardAnswer self ⌝ }
-    {
-        let reversed = self.first_reversed();
-        if reversed < self.count as usize {
-            return Answer::Window(reversed);
-        }
-        Answer::Accepted
-    }
-
-    // The first window that crosses an earlier one, as an answer.
-    pub fn nesting_answer(self) -> Answer
-        requires { ⌜ self .count ≤ maxTasks ⌝ }
-        ensures { λ r. ⌜ r ≡ nestingAnswer self ⌝ }
-    {
-        let crossing = self.first_crossing();
-        if crossing < self.count as usize {
-            return Answer::Nesting(crossing);
-        }
-        Answer::Accepted
-    }
-
-    // What the windows of a table answer: the first that is reversed, else the first that crosses an earlier one, else nothing refused.
-    pub fn window_answer(self) -> Answer
-        requires { ⌜ self .count ≤ maxTasks ⌝ }
-        ensures { λ r. ⌜ r ≡ windowAnswer self ⌝ }
-    {
-        let forward = self.forward_answer();
-        let Answer::Accepted = forward else {
-            return forward;
-        };
-        self.nesting_answer()
+        columns_answer(&releases, &deadlines, count)
     }
 }

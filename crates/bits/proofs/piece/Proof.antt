@@ -30,13 +30,13 @@ shl-result : tie.Need-shl-result
 shl-result c = search needs
 
 rem-result : tie.Need-rem-result
-rem-result c = one-shl-pos (c .before .before .before .args .width) (omega arith)
+rem-result c = one-shl-pos (c .before .before .before .args .width) 32 (omega arith)
 
 returns : tie.Need-returns
 returns c =
     let a = c .before .before .before .args in
     let small : getD (a .file .now) (a .at / 8) 0 < 256 = omega (arith, c .before .shared-slice-known2 .given (a .at / 8)) in
-    rw (c .wide .ensures, one-shl (a .width) (omega arith)) (sym (field-piece (a .file .now) (a .at) (a .width) small (omega arith)))
+    rw (c .wide .ensures, one-shl (a .width) 32 (omega arith)) (sym (field-piece (a .file .now) (a .at) (a .width) small (omega arith)))
 
 pub piece-spec : {M : Type 1} → statement M
 piece-spec = tie.close (tie.spec cast-behind sub-behind sub-behind-2 shared-slice-read-wide wide-requires shr-result shl-result rem-result returns)

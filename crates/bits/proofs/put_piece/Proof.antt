@@ -5,7 +5,8 @@ use mathlib.Core.Path.{_≡_, sym}
 use native.Mathlib.Omega.{arith}
 use borrow.Author.Needs.{needs}
 use lib.ListN.{length, set}
-use Rattle.bits.specs.Bits.{bitsOf, putBits}
+use Rattle.bits.specs.Bits.{bitsOf}
+use Rattle.bits.specs.PutBits.{putBits}
 use Rattle.bits.proofs.ByteLaws.{pieceByte, putBits-piece, one-shl-pos, joined-small, stored-small, stored}
 use Rattle.bits.proofs.put_piece.Statement.{statement}
 use Rattle.bits.proofs.put_piece.Tie as tie
@@ -19,15 +20,18 @@ sub-low c = search needs
 sub-low-2 : tie.Need-sub-low-2
 sub-low-2 c = search needs
 
-slice-read-wide : tie.Need-slice-read-wide
-slice-read-wide c = search needs
+slice-read-long : tie.Need-slice-read-long
+slice-read-long c = search needs
 
-wide-requires : tie.Need-wide-requires
-wide-requires c κs = search needs
+long-requires : tie.Need-long-requires
+long-requires c κs = search needs
 
 -- The byte that is read is below 256.
-byte-small : (c : tie.After-wide) → c .wide .result < 256
-byte-small c = omega (arith, c .wide .ensures, c .before .slice-known2 .given (c .before .before .before .args .at / 8))
+byte-small : (c : tie.After-long) → c .long .result < 256
+byte-small c = omega (arith, c .long .ensures, c .before .slice-known2 .given (c .before .before .before .args .at / 8))
+
+cast-kept : tie.Need-cast-kept
+cast-kept c = search needs
 
 shr-kept : tie.Need-shr-kept
 shr-kept c = search needs
@@ -42,20 +46,23 @@ shl-out-2 : tie.Need-shl-out-2
 shl-out-2 c = search needs
 
 rem-out : tie.Need-rem-out
-rem-out c = one-shl-pos (c .before .before .before .args .width) (omega arith)
+rem-out c = one-shl-pos (c .before .before .before .args .width) 64 (omega arith)
 
 add-out : tie.Need-add-out
 add-out c =
     let a = c .before .before .before .args in
-    omega (arith, joined-small (a .out .now) (a .at) (a .width) (a .bits) (c .wide .result) (c .wide .ensures) (byte-small c) (omega arith))
+    omega (arith, joined-small (a .out .now) (a .at) (a .width) (a .bits) (c .long .result) (c .long .ensures) (byte-small c) (omega arith))
+
+cast-out : tie.Need-cast-out
+cast-out c = search needs
 
 shl-out-3 : tie.Need-shl-out-3
 shl-out-3 c = search needs
 
-cast-out : tie.Need-cast-out
-cast-out c =
+cast-out-2 : tie.Need-cast-out-2
+cast-out-2 c =
     let a = c .before .before .before .args in
-    omega (arith, stored-small (a .out .now) (a .at) (a .width) (a .bits) (c .wide .result) (c .wide .ensures) (byte-small c) (omega arith))
+    omega (arith, stored-small (a .out .now) (a .at) (a .width) (a .bits) (c .long .result) (c .long .ensures) (byte-small c) (omega arith))
 
 slice-write-out : tie.Need-slice-write-out
 slice-write-out c = search needs
@@ -72,7 +79,7 @@ put-is s a w v inside some h =
 returns : tie.Need-returns
 returns c =
     let a = c .before .before .before .args in
-    rw (stored (a .out .now) (a .at) (a .width) (a .bits) (c .wide .result) (c .wide .ensures) (byte-small c) (omega arith))
+    rw (stored (a .out .now) (a .at) (a .width) (a .bits) (c .long .result) (c .long .ensures) (byte-small c) (omega arith))
     (put-is (a .out .now) (a .at) (a .width) (a .bits) (omega arith) (omega arith) (omega arith))
 
 pub put-piece-spec : {M : Type 1} → statement M
@@ -82,16 +89,18 @@ put-piece-spec =
     cast-low
     sub-low
     sub-low-2
-    slice-read-wide
-    wide-requires
+    slice-read-long
+    long-requires
+    cast-kept
     shr-kept
     shr-kept-2
     shl-out
     shl-out-2
     rem-out
     add-out
-    shl-out-3
     cast-out
+    shl-out-3
+    cast-out-2
     slice-write-out
     same-length
     returns)

@@ -8,6 +8,7 @@ use lib.Signed.{ltZ}
 use mir.Syntax.{w32, w64}
 use mir.Val.{SFits, toZ, ofZ}
 use mir.Facts.{toZ-ofZ, sfits-widen}
+use Rattle.base.specs.Limits.{lastFrame}
 use Rattle.table.specs.Moving.{movedFrame}
 use Rattle.moving.proofs.ShiftLaws.{sum-is, moved-fits, moved-back, below-outside, above-outside, Inside, inside}
 use Rattle.moving.proofs.moved_frame.Statement.{statement}
@@ -46,14 +47,14 @@ returns-2 : tie.Need-returns-2
 returns-2 c =
     sym
     (above-outside (movedFrame (c .before .before .args .shift) (c .before .before .args .frame))
-    (ap (λ (m : ℤ). ltZ (pos 131071) m) (sym (back (c .before .before))) ∙ c .if2 .taken))
+    (ap (λ (m : ℤ). ltZ (pos lastFrame) m) (sym (back (c .before .before))) ∙ c .if2 .taken))
 
 -- past both tests the frame is inside
 within : (c : tie.Else2) → Inside (movedFrame (c .before .before .args .shift) (c .before .before .args .frame))
 within c =
     inside (movedFrame (c .before .before .args .shift) (c .before .before .args .frame))
     (ap (λ (m : ℤ). ltZ m (pos 0)) (sym (back (c .before .before))) ∙ c .before .if1 .left)
-    (ap (λ (m : ℤ). ltZ (pos 131071) m) (sym (back (c .before .before))) ∙ c .if2 .left)
+    (ap (λ (m : ℤ). ltZ (pos lastFrame) m) (sym (back (c .before .before))) ∙ c .if2 .left)
 
 cast-t7 : tie.Need-cast-t7
 cast-t7 c = rw (back (c .before .before)) (within c .not-negative, within c .fits)

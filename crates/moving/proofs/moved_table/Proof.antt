@@ -10,7 +10,7 @@ use Rattle.base.specs.Limits.{maxTasks}
 use Rattle.base.proofs.LowestLaws.{before}
 use Rattle.table.specs.Tables.{noTask, taskAt}
 use Rattle.table.specs.Moving.{movedTask, movedOutside, movedTable}
-use Rattle.base.proofs.Filling.{Filled, filled-start, filled-set}
+use Rattle.base.proofs.ArrayFilling.{Filled, filled-start, filled-set}
 use Rattle.moving.proofs.ShiftLaws.{as-passed}
 use Rattle.moving.proofs.MoveLaws.{none-outside, moved-filled}
 use Rattle.moving.proofs.moved_table.Statement.{statement}

@@ -1,42 +1,41 @@
--- `table::crosses_earlier` meets its contract: a search over the earlier windows.
-use Prim.Native.Nat.{_-_}
-use mathlib.Core.Path.{sym, ap, _∙_}
+-- `table::crosses_earlier` meets its contract. The loop's invariant: the flag says whether some of the windows passed is not nested with the task's.
+use Prim.Native.Nat.{_-_, _≤_}
+use mathlib.Core.Path.{_≡_, sym, ap, ap₂, _∙_}
 use mathlib.Core.Bool.{not}
 use native.Mathlib.Omega.{arith}
 use borrow.Author.Needs.{needs}
-use borrow.Author.Tests.{not-true, not-false}
-use Rattle.table.specs.Windows.{nested, windowAt}
-use Rattle.base.proofs.LowestLaws.{Searched, search-start, search-passed, search-none, some-passes}
+use Rattle.base.specs.Tests.{or}
+use Rattle.base.specs.Lowest.{someBelow}
+use Rattle.base.proofs.TestLaws.{or-is}
+use Rattle.base.proofs.LowestLaws.{some-none, some-more}
+use Rattle.table.specs.Windows.{nested}
+use Rattle.table.specs.WindowColumns.{windowAt}
 use Rattle.table.proofs.crosses_earlier.Statement.{statement}
 use Rattle.table.proofs.crosses_earlier.Tie as tie
 
 abbrev Inv-loop : tie.InvT-loop
-Inv-loop task releases deadlines count j₀ j = Searched (λ i. not (nested (windowAt releases deadlines i) task)) count j
+Inv-loop task releases deadlines count crossing₀ j₀ crossing j = (j ≤ count) × (crossing ≡ someBelow (λ i. not (nested (windowAt releases deadlines i) task)) j)
 
 abbrev μ-loop : tie.MeasureT-loop
-μ-loop task releases deadlines count j₀ j = count - j
+μ-loop task releases deadlines count crossing₀ j₀ crossing j = count - j
 
 loop-holds : tie.Need-loop-holds Inv-loop μ-loop
-loop-holds c = search-start _ _
+loop-holds c = (omega arith, sym (some-none _))
 
-mul-t8 : tie.Need-mul-t8 Inv-loop μ-loop
-mul-t8 c = omega arith
+mul-t9 : tie.Need-mul-t9 Inv-loop μ-loop
+mul-t9 c = omega arith
 
-shared-slice-read-t10 : tie.Need-shared-slice-read-t10 Inv-loop μ-loop
-shared-slice-read-t10 c = omega arith
+shared-slice-read-t11 : tie.Need-shared-slice-read-t11 Inv-loop μ-loop
+shared-slice-read-t11 c = omega arith
 
-mul-t11 : tie.Need-mul-t11 Inv-loop μ-loop
-mul-t11 c = omega arith
+mul-t12 : tie.Need-mul-t12 Inv-loop μ-loop
+mul-t12 c = omega arith
 
-shared-slice-read-t13 : tie.Need-shared-slice-read-t13 Inv-loop μ-loop
-shared-slice-read-t13 c = omega arith
+shared-slice-read-t14 : tie.Need-shared-slice-read-t14 Inv-loop μ-loop
+shared-slice-read-t14 c = omega arith
 
 are-nested-requires : tie.Need-are-nested-requires Inv-loop μ-loop
 are-nested-requires c κs = search needs
-
-returns : tie.Need-returns Inv-loop μ-loop
-returns c =
-    sym (some-passes _ _ _ (omega arith) (ap not (sym (c .before .are-nested .ensures) ∙ not-true _ (c .if1 .taken))))
 
 add-j : tie.Need-add-j Inv-loop μ-loop
 add-j c = omega arith
@@ -46,10 +45,13 @@ loop-less c = omega arith
 
 loop-again : tie.Need-loop-again Inv-loop μ-loop
 loop-again c =
-    search-passed _ _ _ (c .before .before .before .before .before .loop .inv) (omega arith) (ap not (sym (c .before .are-nested .ensures) ∙ not-false _ (c .if1 .left)))
+    let l = c .before .before .before .before .loop in
+    (omega arith, or-is (l .crossing) (not (c .are-nested .result)) ∙ (ap₂ or (l .inv .1) (ap not (c .are-nested .ensures)) ∙ sym (some-more _ (l .j))))
 
-returns-2 : tie.Need-returns-2 Inv-loop μ-loop
-returns-2 c = sym (search-none _ _ _ (c .before .loop .inv) (omega arith))
+returns : tie.Need-returns Inv-loop μ-loop
+returns c =
+    let all : c .before .loop .j ≡ c .before .before .before .before .args .count = omega arith in
+    rw all at (c .before .loop .inv .1)
 
 pub crosses-earlier-spec : {M : Type 1} → statement M
 crosses-earlier-spec =
@@ -58,13 +60,12 @@ crosses-earlier-spec =
     Inv-loop
     μ-loop
     loop-holds
-    mul-t8
-    shared-slice-read-t10
-    mul-t11
-    shared-slice-read-t13
+    mul-t9
+    shared-slice-read-t11
+    mul-t12
+    shared-slice-read-t14
     are-nested-requires
-    returns
     add-j
     loop-less
     loop-again
-    returns-2)
+    returns)

@@ -1,97 +1,75 @@
--- `bits::Cursor::put` meets its contract. The loop's invariant: putting the `left` bits at `at` gives what putting all of them into the first bytes gives. Assumes nothing.
-use Prim.Native.Nat.{ℕ, _+_, _-_, _/_, _^_, _≤_}
-use mathlib.Core.Path.{_≡_, refl, sym, ap, _∙_}
-use mathlib.Core.List.{List}
-use borrow.Author.Needs.{needs}
+-- `bits::Cursor::put` meets its contract: the bits that fill the cursor's byte, and then the rest from a byte on. Assumes nothing.
+use mathlib.Core.Path.{_≡_, refl, _∙_}
 use native.Mathlib.Omega.{arith}
-use lib.ListN.{length}
-use Rattle.bits.specs.Bits.{bitsOf, putBits}
-use Rattle.bits.proofs.BitsLaws.{bitsOf-length}
-use Rattle.bits.proofs.PackLaws.{putBits-append}
-use Rattle.bits.proofs.ByteLaws.{bitsOf-add}
+use borrow.Author.Needs.{needs}
+use Rattle.bits.specs.Bits.{bitsOf}
+use Rattle.bits.specs.PutBits.{putBits}
+use Rattle.bits.proofs.ByteLaws.{put-on}
 use Rattle.bits.proofs.Cursor.put.Statement.{statement}
 use Rattle.bits.proofs.Cursor.put.Tie as tie
 
-abbrev Inv-loop : tie.InvT-loop
-Inv-loop out₀ width value start at₀ left₀ out at left =
-    (left ≤ width) × (at + left ≡ start + width) × (length out ≡ length out₀) × (putBits out at (bitsOf left value) ≡ putBits out₀ start (bitsOf width value))
+piece-width-requires : tie.Need-piece-width-requires
+piece-width-requires c κs = search needs
 
-abbrev μ-loop : tie.MeasureT-loop
-μ-loop out₀ width value start at₀ left₀ out at left = left
-
--- A turn puts the first of the bits that are left.
-put-more : (out next : List ℕ) (at left count value : ℕ) → count ≤ left → next ≡ putBits out at (bitsOf count (value / 2 ^ (left - count)))
-    → putBits next (at + count) (bitsOf (left - count) value) ≡ putBits out at (bitsOf left value)
-put-more out next at left count value h put =
-    let first : List ℕ = bitsOf count (value / 2 ^ (left - count)) in
-    let rest : List ℕ = bitsOf (left - count) value in
-    let size : length first ≡ count = bitsOf-length count (value / 2 ^ (left - count)) in
-    let all : left ≡ count + (left - count) = omega arith in
-    rw put (sym (ap (λ n. putBits out at (bitsOf n value)) all ∙ ap (putBits out at) (bitsOf-add count (left - count) value)
-    ∙ putBits-append out at first rest ∙ ap (λ n. putBits (putBits out at first) (at + n) rest) size))
-
-loop-holds : tie.Need-loop-holds Inv-loop μ-loop
-loop-holds c = (omega arith, refl, refl, refl)
-
-piece-width-requires : tie.Need-piece-width-requires Inv-loop μ-loop
-piece-width-requires c κs = tt
-
-sub-left : tie.Need-sub-left Inv-loop μ-loop
-sub-left c = omega arith
-
-cast-put-piece : tie.Need-cast-put-piece Inv-loop μ-loop
-cast-put-piece c = omega arith
-
-cast-put-piece-2 : tie.Need-cast-put-piece-2 Inv-loop μ-loop
-cast-put-piece-2 c = omega arith
-
-shr-put-piece : tie.Need-shr-put-piece Inv-loop μ-loop
-shr-put-piece c = omega arith
-
-put-piece-requires : tie.Need-put-piece-requires Inv-loop μ-loop
-put-piece-requires c κs = omega arith
-
-add-at : tie.Need-add-at Inv-loop μ-loop
-add-at c = omega arith
-
-loop-less : tie.Need-loop-less Inv-loop μ-loop
-loop-less c = omega arith
-
-loop-again : tie.Need-loop-again Inv-loop μ-loop
-loop-again c =
-    let a = c .before .before .before .before .before .before .before .before .args in
-    let l = c .before .before .before .before .before .before .loop in
-    let count = c .before .before .before .before .piece-width .result in
-    (omega arith, omega arith, omega arith, put-more (l .out) (c .before .before .put-piece .last .0) (l .at) (l .left) count (a .value) (omega arith) (c .before .before .put-piece .ensures) ∙ l .inv .3)
-
-add-t16 : tie.Need-add-t16 Inv-loop μ-loop
-add-t16 c = omega arith
-
-same-length : tie.Need-same-length Inv-loop μ-loop
-same-length c = search needs
-
-returns : tie.Need-returns Inv-loop μ-loop
+returns : tie.Need-returns
 unfolding putBits bitsOf
 returns c =
-    let none : c .before .loop .left ≡ 0 = omega arith in
-    (refl, rw none at (c .before .loop .inv .3))
+    let none : c .before .before .before .args .width ≡ 0 = omega arith in
+    (omega arith, rw none refl)
+
+sub-left : tie.Need-sub-left
+sub-left c = search needs
+
+cast-put-piece : tie.Need-cast-put-piece
+cast-put-piece c = search needs
+
+cast-put-piece-2 : tie.Need-cast-put-piece-2
+cast-put-piece-2 c = search needs
+
+cast-put-piece-3 : tie.Need-cast-put-piece-3
+cast-put-piece-3 c = search needs
+
+shr-put-piece : tie.Need-shr-put-piece
+shr-put-piece c = search needs
+
+put-piece-requires : tie.Need-put-piece-requires
+put-piece-requires c κs = search needs
+
+add-put-bytes : tie.Need-add-put-bytes
+add-put-bytes c = search needs
+
+put-bytes-requires : tie.Need-put-bytes-requires
+put-bytes-requires c κs = search needs
+
+add-t18 : tie.Need-add-t18
+add-t18 c = search needs
+
+same-length : tie.Need-same-length
+same-length c = search needs
+
+returns-2 : tie.Need-returns-2
+returns-2 c =
+    let a = c .before .before .before .before .before .before .before .before .before .before .before .args in
+    let first = c .before .before .before .before .before .before .before .before .before .piece-width .result in (
+      refl,
+      c .before .before .put-bytes .ensures
+          ∙ put-on (a .out .now) _ _ (a .width) first (a .value) (omega arith) (λ l. omega arith) (c .before .before .before .before .before .before .put-piece .ensures),
+    )
 
 pub put-spec : {M : Type 1} → statement M
 put-spec =
     tie.close
     (tie.spec
-    Inv-loop
-    μ-loop
-    loop-holds
     piece-width-requires
+    returns
     sub-left
     cast-put-piece
     cast-put-piece-2
+    cast-put-piece-3
     shr-put-piece
     put-piece-requires
-    add-at
-    loop-less
-    loop-again
-    add-t16
+    add-put-bytes
+    put-bytes-requires
+    add-t18
     same-length
-    returns)
+    returns-2)

@@ -6,7 +6,7 @@ use mathlib.Core.List.{List}
 use native.Mathlib.Omega.{arith}
 use lib.ListN.{getD}
 use Rattle.base.specs.Limits.{maxTasks}
-use Rattle.base.proofs.Filling.{Filled, filled-start, filled-set, filled-whole}
+use Rattle.base.proofs.ArrayFilling.{Filled, filled-start, filled-set, filled-whole}
 use Rattle.table.specs.declared.Task.{Task}
 use Rattle.table.specs.Tables.{noTask, tableOf}
 use Rattle.table.proofs.Table.new.Statement.{statement}

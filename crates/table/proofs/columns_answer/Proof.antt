@@ -1,0 +1,33 @@
+-- `table::columns_answer` meets its contract.
+use mathlib.Core.Path.{_∙_, sym, ap}
+use borrow.Author.Needs.{needs}
+use Rattle.table.specs.Answers.{isAccepted}
+use Rattle.table.specs.WindowColumns.{columnsAnswer}
+use Rattle.table.proofs.AnswerLaws.{told-refused, first-refuses, first-accepts}
+use Rattle.table.proofs.columns_answer.Statement.{statement}
+use Rattle.table.proofs.columns_answer.Tie as tie
+
+forward-answer-requires : tie.Need-forward-answer-requires
+forward-answer-requires c κs = search needs
+
+enum-told : tie.Need-enum-told
+enum-told c = search needs
+
+returns : tie.Need-returns
+unfolding columnsAnswer
+returns c =
+    let forward = c .before .forward-answer .ensures in
+    forward ∙ first-refuses _ _ (ap isAccepted (sym forward) ∙ told-refused (c .before .forward-answer .result) (c .match .keys2))
+
+nesting-answer-requires : tie.Need-nesting-answer-requires
+nesting-answer-requires c κs = search needs
+
+returns-2 : tie.Need-returns-2
+unfolding columnsAnswer
+returns-2 c =
+    first-accepts _ _ _ (sym (c .before .before .before .forward-answer .ensures) ∙ c .before .enum-told .given .1) (c .nesting-answer .ensures)
+
+pub columns-answer-spec : {M : Type 1} → statement M
+columns-answer-spec =
+    tie.close
+    (tie.spec forward-answer-requires enum-told returns nesting-answer-requires returns-2)
