@@ -1,247 +1,200 @@
 // Plans all tables of small sizes, and compares each plan with the search.
-ghost use mathlib.Core.Path.{_≡_};
-ghost use Prim.Native.Nat.{_≤_, _<_};
-ghost use lib.ListN.{length};
-use crate::items;
-use crate::items::Family;
-use crate::items::Item;
-use crate::items::PLACES;
+ghost use Prim.Native.Nat.{_≤_};
 use crate::judges;
 use crate::placing;
-use crate::placing::TICKS;
-use crate::print;
+use crate::placing::RUNS;
 use crate::search;
-use crate::search::Expected;
-use crate::search::plus;
-use planner::Planned;
+use crate::search::EXCEEDED;
+use crate::small;
+use crate::small::Family;
+use crate::small::PLACES;
+use base::MAX_TASKS;
+use plans::Planned;
+use std::num::wrapping_add_u64;
+use table::NO_TASK;
 use table::Table;
+use table::Task;
 
-// Counts over tables: planned, refused by 7 and by 8, sums of kept, discarded and runs, tables whose plan differs, and the index of the first
-// such table.
-struct Totals {
-    planned: u32,
-    crossing: u32,
-    exceeding: u32,
-    kept: u32,
-    discarded: u32,
-    runs: u32,
-    differences: u32,
-    first: u32,
-}
-
-const NO_TABLES: Totals = Totals {
-    planned: 0,
-    crossing: 0,
-    exceeding: 0,
-    kept: 0,
-    discarded: 0,
-    runs: 0,
-    differences: 0,
-    first: 0,
-};
-
-// What planning a table came to: the reply, whether it and the lists are what the search finds, and whether the judge says yes.
+// What planning a table came to: the reply, and whether it, or the lists, or what the judge says is other than expected.
 struct Outcome {
     reply: Planned,
-    same: bool,
-    agrees: bool,
+    differs: bool,
 }
 
-// The marks by position are those of a keep list in nest order.
-fn same_marks(order: [Item; PLACES], list: u32, marks: [u8; PLACES], count: u32) -> bool
-    requires { ⌜ count ≤ 4 ⌝ }
-{
-    let mut rest = list;
-    let mut k: u32 = 0;
-    while k < count {
-        let item = order[k as usize];
-        let position = (item.position % 4) as usize;
-        if marks[position] != (rest % 2) as u8 {
-            return false;
-        }
-        rest = rest / 2;
-        k += 1;
-    }
-    true
+// The keep list of some marks by position.
+fn list_of(marks: [u8; PLACES]) -> u32 {
+    marks[0] as u32 % 256
+        + 2 * (marks[1] as u32 % 256)
+        + 4 * (marks[2] as u32 % 256)
+        + 8 * (marks[3] as u32 % 256)
 }
 
-// A reply has the number and place of what is expected, the counts of its list, and at most 2 * count - 1 runs.
-fn same_reply(reply: Planned, expected: Expected, count: u32) -> bool
-    requires { ⌜ count ≤ 4 ⌝ }
-{
-    let score = expected.score;
-    if reply.number != expected.number || reply.place != expected.place as usize {
-        return false;
-    }
-    if (2 * count) as usize <= reply.runs {
-        return false;
-    }
-    reply.discarded == score / 65_536 && reply.kept == score % 256
+// A reply refuses a table by a number, at a place.
+fn is_refusal(reply: Planned, number: u32, place: usize) -> bool {
+    reply.number == number
+        && reply.place == place
+        && reply.kept == 0
+        && reply.discarded == 0
+        && reply.runs == 0
+}
+
+// A reply accepts a table of `count` tasks, with the counts of the best list's score, and at most 2 * count - 1 runs.
+fn is_plan(reply: Planned, score: u32, count: usize) -> bool {
+    reply.number == 0
+        && reply.place == 0
+        && reply.discarded == score / 65_536
+        && reply.kept == score % 16
+        && reply.runs < count % 8 * 2
 }
 
 // The reply, the marks and the runs are what the search finds.
 fn same(
+    family: Family,
+    tasks: [Task; PLACES],
     reply: Planned,
-    items: [Item; PLACES],
-    count: u32,
     marks: [u8; PLACES],
-    starts: [u32; TICKS],
-    ends: [u32; TICKS],
-    tasks: [u32; TICKS],
-) -> bool
-    requires { ⌜ count ≤ 4 ⌝ }
-{
-    let order = search::nest_order(items);
-    let expected = search::plan(items, order);
-    if !same_reply(reply, expected, count) {
-        return false;
+    starts: [u32; RUNS],
+    ends: [u32; RUNS],
+    run_tasks: [u32; RUNS],
+) -> bool {
+    let crossing = search::first_crossing(tasks, family.count);
+    if crossing < 4 {
+        return is_refusal(reply, 7, crossing);
     }
-    if reply.number != 0 {
-        return reply.runs == 0;
+    let none = search::score(tasks, family.row, 0);
+    if EXCEEDED <= none {
+        return is_refusal(reply, 8, (none % 4) as usize);
     }
-    if !same_marks(order, expected.list, marks, count) {
-        return false;
-    }
-    let owners = placing::placed(order, expected.list);
-    placing::same_runs(owners, reply.runs, starts, ends, tasks)
+    let best = search::best(tasks, family.row);
+    let owners = placing::placed(tasks, family.row, best.list);
+    is_plan(reply, best.score, family.count)
+        && list_of(marks) == best.list
+        && placing::same_runs(owners, reply.runs, starts, ends, run_tasks)
 }
 
-// Plans the file of some items into lists of 4 marks and 7 runs, and compares.
-fn compared(items: [Item; PLACES], count: u32, file: &[u8]) -> Outcome
-    requires { ⌜ count ≤ 4 ⌝ }
-{
+// Plans the file of some tasks into lists of 4 marks and 7 runs, and compares.
+fn planned(family: Family, tasks: [Task; PLACES], file: &[u8]) -> Outcome {
     let mut marks = [0u8; PLACES];
-    let mut starts = [0u32; TICKS];
-    let mut ends = [0u32; TICKS];
-    let mut tasks = [0u32; TICKS];
-    let reply = planner::plan(file, &mut marks, &mut starts, &mut ends, &mut tasks);
-    let same = same(reply, items, count, marks, starts, ends, tasks);
-    let agrees = judges::agrees(reply, file, count as usize, &marks, &starts, &ends, &tasks);
+    let mut starts = [0u32; RUNS];
+    let mut ends = [0u32; RUNS];
+    let mut run_tasks = [0u32; RUNS];
+    let reply = planner::plan(file, &mut marks, &mut starts, &mut ends, &mut run_tasks);
+    let agrees = judges::agrees(
+        reply,
+        file,
+        family.count % 5,
+        &marks,
+        &starts,
+        &ends,
+        &run_tasks,
+    );
+    let same = same(family, tasks, reply, marks, starts, ends, run_tasks);
     Outcome {
         reply,
-        same,
-        agrees,
+        differs: !agrees || !same,
     }
 }
 
-// Writes the file of a table, also of one that writing refuses by 7, and answers its length.
-fn file_of(table: Table, out: &mut [u8]) -> usize
-    requires { ⌜ length (now out) ≡ 40 ⌝ }
-    ensures { λ r. ⌜ r ≤ 40 ⌝ }
+// The table value of some tasks.
+fn table_of(family: Family, tasks: [Task; PLACES]) -> Table
+    ensures { λ r. ⌜ r .count ≤ 4 ⌝ }
 {
-    if 4 < table.count {
-        return 0;
+    let mut places = [NO_TASK; MAX_TASKS];
+    places[0] = tasks[0];
+    places[1] = tasks[1];
+    places[2] = tasks[2];
+    places[3] = tasks[3];
+    Table {
+        count: (family.count % 5) as u32,
+        p: family.p,
+        q: family.q,
+        tasks: places,
     }
-    let reply = writing::write(table, out);
-    if reply.number == 7 {
-        writing::put_table(table, out);
-        return table::file_length(table.count);
+}
+
+// Puts the file of a table into a list without the refusals of writing, since the windows may cross, and answers its length.
+fn put_file(table: Table, list: &mut [u8]) -> usize
+    requires { ⌜ table .count ≤ 4 ⌝ }
+{
+    let length = table::file_length(table.count);
+    if length <= list.len() {
+        writing::put_table(table, list);
     }
-    let bytes = reply.bytes;
-    if 40 < bytes {
-        return 0;
-    }
-    bytes
+    length
 }
 
 // Plans the table at an index of a family, and compares.
-fn try_table(family: Family, codes: u32, index: u32) -> Outcome
-    requires { ⌜ (family .count ≤ 4) × (0 < family .options) × (family .first ≤ 20) ⌝ }
-    requires { ⌜ 0 < codes ⌝ }
-{
-    let items = items::items_of(family, codes, index);
-    let table = items::table_of(family, items);
+fn try_table(family: Family, index: u32) -> Outcome {
+    let tasks = small::tasks_of(family, index);
     let mut file = [0u8; 40];
-    let length = file_of(table, &mut file);
-    compared(items, family.count, &file[0..length])
+    let length = put_file(table_of(family, tasks), &mut file) % 41;
+    planned(family, tasks, &file[0..length])
 }
 
+// Counts over tables: at places 0 to 15 the replies by their number; then the sums of kept, discarded and runs, the tables whose plan differs, and the
+// index of the first such table.
+const COUNTS: usize = 21;
+
 // The counts with one table more.
-fn counted(totals: Totals, outcome: Outcome, index: u32) -> Totals {
+fn counted(counts: [u64; COUNTS], outcome: Outcome, index: u32) -> [u64; COUNTS] {
     let reply = outcome.reply;
-    let mut after = totals;
-    if reply.number == 0 {
-        after.planned = plus(after.planned, 1);
-        after.kept = plus(after.kept, reply.kept);
-        after.discarded = plus(after.discarded, reply.discarded);
-        after.runs = plus(after.runs, (reply.runs % 256) as u32);
-    }
-    if reply.number == 7 {
-        after.crossing = plus(after.crossing, 1);
-    }
-    if reply.number == 8 {
-        after.exceeding = plus(after.exceeding, 1);
-    }
-    if !outcome.same || !outcome.agrees {
-        if after.differences == 0 {
-            after.first = index;
+    let number = (reply.number % 16) as usize;
+    let mut after = counts;
+    after[number] = wrapping_add_u64(counts[number], 1);
+    after[16] = wrapping_add_u64(counts[16], reply.kept as u64);
+    after[17] = wrapping_add_u64(counts[17], reply.discarded as u64);
+    after[18] = wrapping_add_u64(counts[18], reply.runs as u64);
+    if outcome.differs {
+        if counts[19] == 0 {
+            after[20] = index as u64;
         }
-        after.differences = plus(after.differences, 1);
+        after[19] = wrapping_add_u64(counts[19], 1);
     }
     after
 }
 
+// Plans the first `tables` tables of a family, and counts.
+fn try_all(family: Family, tables: u32) -> [u64; COUNTS] {
+    let mut counts = [0u64; COUNTS];
+    let mut index: u32 = 0;
+    while index < tables {
+        let after = counted(counts, try_table(family, index), index);
+        counts = after;
+        index += 1;
+    }
+    counts
+}
+
 // Prints the counts over so many tables.
-fn show(name: &[u8], tables: u32, totals: Totals) {
-    print::text(name);
-    print::numbers(
+fn show(tables: u32, counts: [u64; COUNTS]) {
+    cases::show(
+        b" # # # # # # # # #\n",
         &[
             tables as u64,
-            totals.planned as u64,
-            totals.crossing as u64,
-            totals.exceeding as u64,
-            totals.kept as u64,
-            totals.discarded as u64,
-            totals.runs as u64,
-            totals.differences as u64,
-            totals.first as u64,
+            counts[0],
+            counts[7],
+            counts[8],
+            counts[16],
+            counts[17],
+            counts[18],
+            counts[19],
+            counts[20],
         ],
     );
 }
 
-// Plans the first `tables` tables of a family, and counts.
-fn try_all(family: Family, codes: u32, tables: u32) -> Totals
-    requires { ⌜ (family .count ≤ 4) × (0 < family .options) × (family .first ≤ 20) ⌝ }
-    requires { ⌜ 0 < codes ⌝ }
-{
-    let mut totals = NO_TABLES;
-    let mut index: u32 = 0;
-    while index < tables {
-        totals = counted(totals, try_table(family, codes, index), index);
-        index += 1;
-    }
-    totals
-}
-
-// Plans all tables of a family, which has so many codes for a task and so many tables, and prints the counts.
-fn try_family(
-    name: &[u8],
-    count: u32,
-    p: u32,
-    q: u32,
-    first: u32,
-    options: u32,
-    codes: u32,
-    tables: u32,
-)
-    requires { ⌜ (count ≤ 4) × (0 < options) × (first ≤ 20) ⌝ }
-    requires { ⌜ 0 < codes ⌝ }
-{
+// A family: its tasks, p, q, the row of its ticks, 1 where its windows are a chain, and the number of its tables. Plans all its tables and prints the counts.
+pub fn family(line: &[u8]) {
+    let mut numbers = [0u32; 6];
+    cases::numbers(line, 1, &mut numbers);
     let family = Family {
-        count,
-        p,
-        q,
-        first,
-        options,
+        count: (numbers[0] % 5) as usize,
+        p: numbers[1],
+        q: numbers[2],
+        row: (numbers[3] % 3) as usize,
+        chain: numbers[4] == 1,
     };
-    show(name, tables, try_all(family, codes, tables));
-}
-
-pub fn all() {
-    try_family(b"1 task, 1/1:", 1, 1, 1, 0, 4, 48, 48);
-    try_family(b"2 tasks, 1/1:", 2, 1, 1, 0, 4, 48, 2_304);
-    try_family(b"2 tasks, 3/2:", 2, 3, 2, 6, 4, 48, 2_304);
-    try_family(b"2 tasks, 5/4:", 2, 5, 4, 12, 4, 48, 2_304);
-    try_family(b"3 tasks, 1/1:", 3, 1, 1, 0, 4, 48, 110_592);
-    try_family(b"4 tasks, 1/1:", 4, 1, 1, 18, 3, 18, 104_976);
+    let tables = numbers[5];
+    cases::show_title(line);
+    show(tables, try_all(family, tables));
 }

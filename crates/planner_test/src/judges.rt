@@ -2,7 +2,7 @@
 ghost use mathlib.Core.Path.{_≡_};
 ghost use Prim.Native.Nat.{_≤_};
 ghost use lib.ListN.{length};
-use planner::Planned;
+use plans::Planned;
 use schedule::Judged;
 
 // The verdict is yes, with the counts of the plan.
@@ -31,12 +31,14 @@ pub fn agrees(
     if starts.len() < runs {
         return false;
     }
-    let verdict = judging::judge(
-        file,
-        &marks[0..count],
-        &starts[0..runs],
-        &ends[0..runs],
-        &tasks[0..runs],
-    );
-    is_yes(verdict, reply)
+    is_yes(
+        judging::judge(
+            file,
+            &marks[0..count],
+            &starts[0..runs],
+            &ends[0..runs],
+            &tasks[0..runs],
+        ),
+        reply,
+    )
 }

@@ -1,18 +1,40 @@
-// Reads, writes and moves table files and prints what each call answers.
-//
-// A line has the call, the case, and the number and place of the answer. Reading then prints the table. Writing and moving print
-// the bytes written, and 'kept' where every byte of the lent list beyond them is what it was before the call.
-mod files;
+// Reads, writes and moves table files and prints what each call answers. The cases are the lines of the file `stdin`, of which a line that starts with
+// `#` is a comment. What is printed starts with the case's title and the number and place of the answer.
 mod lists;
 mod moves;
-mod print;
 mod reads;
-mod replies;
 mod tables;
 mod writes;
 
+use libc::STDIN_FILENO;
+
+// The case on a line that starts with a given byte.
+fn case(start: u8, line: &[u8]) {
+    if start == b'#' {
+        return;
+    }
+    cases::show_title(line);
+    if start == b'r' {
+        reads::case(line);
+    } else if start == b'w' {
+        writes::case(line);
+    } else {
+        moves::case(line);
+    }
+}
+
+// The cases of a text, line by line.
+fn all(text: &[u8]) {
+    let mut start: usize = 0;
+    while start < text.len() {
+        let next = cases::next_line(text, start);
+        case(text[start], &text[start..next]);
+        start = next;
+    }
+}
+
 fn main() {
-    reads::all();
-    writes::all();
-    moves::all();
+    let mut text = io::large_buffer();
+    let length = io::read_full(STDIN_FILENO, &mut text);
+    all(&text[..length]);
 }

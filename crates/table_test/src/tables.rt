@@ -1,167 +1,87 @@
-// Tables for the cases, and how a table is printed and compared.
-use crate::print;
+// Tables, printed and compared.
 use base::MAX_TASKS;
-use table::NO_TASK;
+use table::Answer;
 use table::Table;
 use table::Task;
 
-pub fn task(release: u32, deadline: u32, mandatory: u32, optional: u32) -> Task {
-    Task {
-        release,
-        deadline,
-        mandatory,
-        optional,
-    }
+// Prints the number and the place of an answer.
+pub fn show_answer(answer: Answer) {
+    cases::show(b" # #", &[answer.number() as u64, answer.place() as u64]);
 }
 
-// A table of one task.
-pub fn one(p: u32, q: u32, a: Task) -> Table {
-    let mut tasks = [NO_TASK; MAX_TASKS];
-    tasks[0] = a;
-    Table::new(1, p, q, tasks)
-}
-
-// A table of two tasks.
-pub fn two(p: u32, q: u32, a: Task, b: Task) -> Table {
-    let mut tasks = [NO_TASK; MAX_TASKS];
-    tasks[0] = a;
-    tasks[1] = b;
-    Table::new(2, p, q, tasks)
-}
-
-// A table of three tasks.
-pub fn three(p: u32, q: u32, a: Task, b: Task, c: Task) -> Table {
-    let mut tasks = [NO_TASK; MAX_TASKS];
-    tasks[0] = a;
-    tasks[1] = b;
-    tasks[2] = c;
-    Table::new(3, p, q, tasks)
-}
-
-// A table of 64 tasks: windows of 64 lengths, one in the other, in mixed order, and lengths in ticks that all differ.
-pub fn full() -> Table {
-    let mut tasks = [NO_TASK; MAX_TASKS];
-    let mut i: u32 = 0;
-    while i < 64 {
-        let depth = i * 37 % 64;
-        tasks[i as usize] = task(3 * depth, 131_071 - 5 * depth, 16_383 - 7 * i, 11 * i);
-        i += 1;
-    }
-    Table::new(64, 1001, 10, tasks)
-}
-
+// Prints a task.
 fn show_task(position: usize, task: Task) {
-    print::text(b"  task");
-    print::size(position);
-    print::text(b":");
-    print::number(task.release);
-    print::number(task.deadline);
-    print::number(task.mandatory);
-    print::number(task.optional);
-    print::text(b"\n");
+    cases::show(
+        b"  task #: # # # #\n",
+        &[
+            position as u64,
+            task.release as u64,
+            task.deadline as u64,
+            task.mandatory as u64,
+            task.optional as u64,
+        ],
+    );
 }
 
-// The tasks up to the count, one to a line.
-fn show_tasks(table: Table) {
+// Prints the tasks up to the count, one to a line, and answers a number that is 0 where every place beyond them is 0.
+fn show_tasks(table: Table) -> u32 {
     let count = table.count as usize;
+    let mut beyond: u32 = 0;
     let mut i: usize = 0;
     while i < MAX_TASKS {
         let task = table.tasks[i];
         if i < count {
             show_task(i, task);
+        } else {
+            beyond = beyond | task.release | task.deadline | task.mandatory | task.optional;
         }
         i += 1;
     }
+    beyond
 }
 
-// Every number of the task is 0.
-fn is_zero(task: Task) -> bool {
-    same_task(task, NO_TASK)
+// Prints a table: its header, its tasks, and whether the places beyond them are 0.
+pub fn show(table: Table) {
+    cases::show(
+        b"  count # p # q #\n",
+        &[table.count as u64, table.p as u64, table.q as u64],
+    );
+    if show_tasks(table) == 0 {
+        cases::text(b"  places beyond: 0\n");
+    } else {
+        cases::text(b"  places beyond: not 0\n");
+    }
 }
 
-fn same_task(a: Task, b: Task) -> bool {
-    if a.release != b.release {
-        return false;
+// Prints whether a table is 0 throughout.
+pub fn show_none(table: Table) {
+    if table.count | table.p | table.q | show_tasks(table) == 0 {
+        cases::text(b" table 0\n");
+    } else {
+        cases::text(b" table not 0\n");
     }
-    if a.deadline != b.deadline {
-        return false;
-    }
-    if a.mandatory != b.mandatory {
-        return false;
-    }
-    a.optional == b.optional
 }
 
-// Every place from `start` on is 0.
-fn zero_from(table: Table, start: usize) -> bool {
-    let mut i = start;
-    while i < MAX_TASKS {
-        let task = table.tasks[i];
-        if !is_zero(task) {
-            return false;
-        }
-        i += 1;
-    }
-    true
+// A number that is 0 where two tasks are the same.
+fn difference(a: Task, b: Task) -> u32 {
+    a.release ^ b.release
+        | a.deadline ^ b.deadline
+        | a.mandatory ^ b.mandatory
+        | a.optional ^ b.optional
 }
 
-// The places up to `count` agree.
-fn same_tasks(a: Table, b: Table, count: usize) -> bool {
+// Two tables are the same: count, p, q and the tasks up to the count agree.
+pub fn same(a: Table, b: Table) -> bool {
+    let count = a.count as usize;
+    let mut different = a.count ^ b.count | a.p ^ b.p | a.q ^ b.q;
     let mut i: usize = 0;
     while i < MAX_TASKS {
         let x = a.tasks[i];
         let y = b.tasks[i];
         if i < count {
-            if !same_task(x, y) {
-                return false;
-            }
+            different = different | difference(x, y);
         }
         i += 1;
     }
-    true
-}
-
-// Two tables are the same: count, p, q and the tasks up to the count agree.
-pub fn same(a: Table, b: Table) -> bool {
-    if a.count != b.count {
-        return false;
-    }
-    if a.p != b.p {
-        return false;
-    }
-    if a.q != b.q {
-        return false;
-    }
-    same_tasks(a, b, a.count as usize)
-}
-
-// The table is 0 throughout.
-pub fn is_none(table: Table) -> bool {
-    if table.count != 0 {
-        return false;
-    }
-    if table.p != 0 {
-        return false;
-    }
-    if table.q != 0 {
-        return false;
-    }
-    zero_from(table, 0)
-}
-
-// A table: its header, its tasks, and whether the places beyond them are 0.
-pub fn show(table: Table) {
-    print::text(b"  count");
-    print::number(table.count);
-    print::text(b" p");
-    print::number(table.p);
-    print::text(b" q");
-    print::number(table.q);
-    print::text(b"\n");
-    show_tasks(table);
-    if zero_from(table, table.count as usize) {
-        print::text(b"  places beyond: 0\n");
-    } else {
-        print::text(b"  places beyond: not 0\n");
-    }
+    different == 0
 }

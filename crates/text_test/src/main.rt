@@ -1,16 +1,124 @@
-// Reads tables from texts and prints what each text gives.
+// Reads tables from texts and prints what each text gives. The cases are the lines of the file `stdin`, of which a line that starts with `#` is a
+// comment.
 //
-// A line has the case, the first wrong line and how many numbers are due there; then the table: task count, p and q, and the tasks at
-// the places 0, 1, 2 and 63. After the texts come refusals of writing, each with its number, its place and the line it is about.
-mod good;
-mod many;
-mod places;
-mod print;
-mod wrong;
+// A line has a title and, right behind its colon, the text, in which `\n` stands for a newline, `\r` for a carriage return, `\t` for a tab, `\f` for a form
+// feed and `\0` for the byte 0. What is printed is the title, the first wrong line and how many numbers are due there; then the table: task count, p and q,
+// and the tasks at the places 0, 1, 2 and 63. A line that starts with `refusal` has the number and the place of a refusal of writing; what is printed is the
+// line of the text that it is about.
+ghost use Rattle.io.specs.Counts.{Counts};
+use libc::STDIN_FILENO;
+use table::Table;
+use table::Task;
+use table_text::Parsed;
+
+// What the byte behind a backslash stands for.
+fn escaped(byte: u8) -> u8 {
+    match byte {
+        b'n' => b'\n',
+        b'r' => b'\r',
+        b't' => b'\t',
+        b'f' => b'\x0C',
+        _ => b'\0',
+    }
+}
+
+// Puts what stands before the last byte of a line into a list, as much as the list holds, and answers how many bytes.
+fn unescape(line: &[u8], list: &mut [u8]) -> usize
+    ensures { λ r. ⌜ Counts r (now (list .exit)) ⌝ }
+{
+    let mut i: usize = 0;
+    let mut count: usize = 0;
+    while count < list.len() {
+        if line.len() - i < 2 {
+            return count;
+        }
+        let mut byte = line[i];
+        if byte == b'\\' {
+            i += 1;
+            byte = escaped(line[i]);
+        }
+        list[count] = byte;
+        i += 1;
+        count += 1;
+    }
+    count
+}
+
+// Prints a task.
+fn show_task(task: Task) {
+    cases::show(
+        b", # # # #",
+        &[
+            task.release as u64,
+            task.deadline as u64,
+            task.mandatory as u64,
+            task.optional as u64,
+        ],
+    );
+}
+
+// Prints four of the places of a table.
+fn show_tasks(table: Table) {
+    let tasks = table.tasks;
+    show_task(tasks[0]);
+    show_task(tasks[1]);
+    show_task(tasks[2]);
+    show_task(tasks[63]);
+}
+
+// Prints what a text gives.
+fn show(parsed: Parsed) {
+    let table = parsed.table;
+    cases::show(
+        b" # #, # # #",
+        &[
+            parsed.line as u64,
+            parsed.due as u64,
+            table.count as u64,
+            table.p as u64,
+            table.q as u64,
+        ],
+    );
+    show_tasks(table);
+    cases::text(b"\n");
+}
+
+// Prints the line that a refusal of writing is about.
+fn refusal(line: &[u8]) {
+    let number = cases::number(line, 1);
+    let place = cases::number(line, 2) as usize;
+    let about = table_text::refused_line(number, place);
+    cases::show(b" line #\n", &[about as u64]);
+}
+
+// The case on a line that starts with a given byte.
+fn case(start: u8, line: &[u8]) {
+    if start == b'#' {
+        return;
+    }
+    cases::show_title(line);
+    if start == b'r' {
+        refusal(line);
+        return;
+    }
+    let mut text = [0u8; 600];
+    let behind = cases::start_of(line, 1);
+    let length = unescape(&line[behind..], &mut text);
+    show(table_text::parse(&text[..length]));
+}
+
+// The cases of a text, line by line.
+fn all(text: &[u8]) {
+    let mut start: usize = 0;
+    while start < text.len() {
+        let next = cases::next_line(text, start);
+        case(text[start], &text[start..next]);
+        start = next;
+    }
+}
 
 fn main() {
-    good::all();
-    wrong::all();
-    many::all();
-    places::all();
+    let mut text = io::large_buffer();
+    let length = io::read_full(STDIN_FILENO, &mut text);
+    all(&text[..length]);
 }

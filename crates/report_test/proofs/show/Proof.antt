@@ -1,8 +1,8 @@
 -- `report_test::show` stays within its array: what is printed fits the text.
-use native.Mathlib.Omega.{arith}
-use lib.ListN.{length-take}
-use Rattle.report.proofs.TextLaws.{print-most}
+use Rattle.printed_plan.proofs.TextLaws.{print-most}
 use borrow.Author.Needs.{needs}
+use lib.ListN.{length-take}
+use native.Mathlib.Omega.{arith}
 use Rattle.report_test.proofs.show.Statement.{statement}
 use Rattle.report_test.proofs.show.Tie as tie
 
@@ -15,17 +15,17 @@ print-requires c κs = search needs
 array-share-prefix-text : tie.Need-array-share-prefix-text
 array-share-prefix-text c = omega (arith, print-most _ _ _ (c .before .print .ensures .0))
 
-slice-aggregate-write-all : tie.Need-slice-aggregate-write-all
-slice-aggregate-write-all c = rw (length-take (c .before .before .print .result) (c .before .before .print .last .1 .0)) (omega (arith, print-most _ _ _ (c .before .before .print .ensures .0)))
+slice-aggregate-text : tie.Need-slice-aggregate-text
+slice-aggregate-text c = rw (length-take (c .before .before .print .result) (c .before .before .print .last .1 .0)) (omega (arith, print-most _ _ _ (c .before .before .print .ensures .0)))
 
-write-all-requires : tie.Need-write-all-requires
-write-all-requires c κs = search needs
+text-requires : tie.Need-text-requires
+text-requires c κs = search needs
 
-slice-aggregate-write-all-2 : tie.Need-slice-aggregate-write-all-2
-slice-aggregate-write-all-2 c = search needs
+slice-aggregate-text-2 : tie.Need-slice-aggregate-text-2
+slice-aggregate-text-2 c = search needs
 
-write-all-requires-2 : tie.Need-write-all-requires-2
-write-all-requires-2 c κs = search needs
+text-requires-2 : tie.Need-text-requires-2
+text-requires-2 c κs = search needs
 
 returns : tie.Need-returns
 returns c = search needs
@@ -37,8 +37,8 @@ show-spec =
     slice-aggregate-print
     print-requires
     array-share-prefix-text
-    slice-aggregate-write-all
-    write-all-requires
-    slice-aggregate-write-all-2
-    write-all-requires-2
+    slice-aggregate-text
+    text-requires
+    slice-aggregate-text-2
+    text-requires-2
     returns)

@@ -1,14 +1,14 @@
--- `planner_test::checks::try_all` is safe and ends: the measure is the number of the tables left.
+-- `planner_test::checks::try_all` is safe and ends: the measure is the number of tables left.
 use Prim.Native.Nat.{_-_}
 use borrow.Author.Needs.{needs}
 use Rattle.planner_test.proofs.checks.try_all.Statement.{statement}
 use Rattle.planner_test.proofs.checks.try_all.Tie as tie
 
 abbrev Inv-loop : tie.InvT-loop
-Inv-loop family codes tables totals₀ index₀ totals index = Unit
+Inv-loop family tables counts₀ index₀ counts index = Unit
 
 abbrev μ-loop : tie.MeasureT-loop
-μ-loop family codes tables totals₀ index₀ totals index = tables - index
+μ-loop family tables counts₀ index₀ counts index = tables - index
 
 loop-holds : tie.Need-loop-holds Inv-loop μ-loop
 loop-holds c = search needs

@@ -1,14 +1,14 @@
--- `planner_test::placing::same_runs` is safe and ends: the measure is the number of the ticks left.
+-- `planner_test::placing::same_runs` is safe and ends: the measure is the number of ticks left.
 use Prim.Native.Nat.{_-_}
 use borrow.Author.Needs.{needs}
 use Rattle.planner_test.proofs.placing.same_runs.Statement.{statement}
 use Rattle.planner_test.proofs.placing.same_runs.Tie as tie
 
 abbrev Inv-loop : tie.InvT-loop
-Inv-loop runs starts ends tasks owners last₀ left₀ tick₀ last left tick = Unit
+Inv-loop runs owners starts ends tasks wrong₀ last₀ run₀ tick₀ wrong last run tick = Unit
 
 abbrev μ-loop : tie.MeasureT-loop
-μ-loop runs starts ends tasks owners last₀ left₀ tick₀ last left tick = 7 - tick
+μ-loop runs owners starts ends tasks wrong₀ last₀ run₀ tick₀ wrong last run tick = 8 - tick
 
 loop-holds : tie.Need-loop-holds Inv-loop μ-loop
 loop-holds c = search needs
@@ -22,17 +22,26 @@ mul-owner c = search needs
 array-read-owner : tie.Need-array-read-owner Inv-loop μ-loop
 array-read-owner c = search needs
 
-owner-in-requires : tie.Need-owner-in-requires Inv-loop μ-loop
-owner-in-requires c κs = search needs
+mul-wrong : tie.Need-mul-wrong Inv-loop μ-loop
+mul-wrong c = search needs
 
-returns : tie.Need-returns Inv-loop μ-loop
-returns c = search needs
+array-read-wrong : tie.Need-array-read-wrong Inv-loop μ-loop
+array-read-wrong c = search needs
 
-returns-2 : tie.Need-returns-2 Inv-loop μ-loop
-returns-2 c = search needs
+add-run : tie.Need-add-run Inv-loop μ-loop
+add-run c = search needs
 
-sub-left : tie.Need-sub-left Inv-loop μ-loop
-sub-left c = search needs
+mul-wrong-2 : tie.Need-mul-wrong-2 Inv-loop μ-loop
+mul-wrong-2 c = search needs
+
+array-read-wrong-2 : tie.Need-array-read-wrong-2 Inv-loop μ-loop
+array-read-wrong-2 c = search needs
+
+mul-wrong-3 : tie.Need-mul-wrong-3 Inv-loop μ-loop
+mul-wrong-3 c = search needs
+
+array-read-wrong-3 : tie.Need-array-read-wrong-3 Inv-loop μ-loop
+array-read-wrong-3 c = search needs
 
 add-tick : tie.Need-add-tick Inv-loop μ-loop
 add-tick c = search needs
@@ -43,8 +52,11 @@ loop-less c = search needs
 loop-again : tie.Need-loop-again Inv-loop μ-loop
 loop-again c = search needs
 
-returns-3 : tie.Need-returns-3 Inv-loop μ-loop
-returns-3 c = search needs
+returns : tie.Need-returns Inv-loop μ-loop
+returns c = search needs
+
+returns-2 : tie.Need-returns-2 Inv-loop μ-loop
+returns-2 c = search needs
 
 pub same-runs-spec : {M : Type 1} → statement M
 same-runs-spec =
@@ -56,11 +68,15 @@ same-runs-spec =
     cast-owner
     mul-owner
     array-read-owner
-    owner-in-requires
-    returns
-    returns-2
-    sub-left
+    mul-wrong
+    array-read-wrong
+    add-run
+    mul-wrong-2
+    array-read-wrong-2
+    mul-wrong-3
+    array-read-wrong-3
     add-tick
     loop-less
     loop-again
-    returns-3)
+    returns
+    returns-2)

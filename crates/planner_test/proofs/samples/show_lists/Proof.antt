@@ -1,4 +1,4 @@
--- `planner_test::samples::show_lists` is safe and ends: the measure is the number of the places left.
+-- `planner_test::samples::show_lists` is safe and ends: the measure is the number of places left.
 use Prim.Native.Nat.{_-_}
 use borrow.Author.Needs.{needs}
 use Rattle.planner_test.proofs.samples.show_lists.Statement.{statement}

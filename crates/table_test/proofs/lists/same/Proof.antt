@@ -1,4 +1,4 @@
--- `table_test::lists::same` is safe and ends: the measure is what is left of `a`, which is as long as `b`.
+-- `table_test::lists::same` is safe and ends: the measure is the number of bytes left.
 use Prim.Native.Nat.{_-_}
 use borrow.Author.Needs.{needs}
 use lib.ListN.{length}
@@ -11,11 +11,11 @@ Inv-loop a b i₀ i = Unit
 abbrev μ-loop : tie.MeasureT-loop
 μ-loop a b i₀ i = length a - i
 
-returns : tie.Need-returns Inv-loop μ-loop
-returns c = search needs
-
 loop-holds : tie.Need-loop-holds Inv-loop μ-loop
 loop-holds c = search needs
+
+returns : tie.Need-returns Inv-loop μ-loop
+returns c = search needs
 
 shared-slice-read-if2 : tie.Need-shared-slice-read-if2 Inv-loop μ-loop
 shared-slice-read-if2 c = search needs
@@ -44,8 +44,8 @@ same-spec =
     (tie.spec
     Inv-loop
     μ-loop
-    returns
     loop-holds
+    returns
     shared-slice-read-if2
     shared-slice-read-if2-2
     returns-2

@@ -5,10 +5,10 @@ use Rattle.table_test.proofs.tables.show_tasks.Statement.{statement}
 use Rattle.table_test.proofs.tables.show_tasks.Tie as tie
 
 abbrev Inv-loop : tie.InvT-loop
-Inv-loop table count i₀ i = Unit
+Inv-loop table count beyond₀ i₀ beyond i = Unit
 
 abbrev μ-loop : tie.MeasureT-loop
-μ-loop table count i₀ i = 64 - i
+μ-loop table count beyond₀ i₀ beyond i = 64 - i
 
 cast-count : tie.Need-cast-count Inv-loop μ-loop
 cast-count c = search needs
