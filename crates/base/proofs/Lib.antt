@@ -1,5 +1,7 @@
 pub mod TestLaws
 pub mod LowestLaws
 pub mod PlaceLaws
-pub mod Filling
+pub mod ArrayFilling
 pub mod Storing
+pub mod MemberLaws
+pub mod ListLaws

@@ -5,7 +5,8 @@ use mathlib.Core.Bool.{Bool, true, false}
 use native.Mathlib.Omega.{arith}
 use native.Mathlib.Numerals.{add-one}
 use native.Mathlib.Decide.{decLe, decLt}
-use borrow.Author.Tests.{ltb-false, lt-ltb, le-ltb}
+use borrow.Author.Tests.{ltb-true, ltb-false, lt-ltb, le-ltb}
+use Rattle.base.specs.Tests.{or}
 use Rattle.base.specs.Lowest.{lowestFrom, lowest, someBelow}
 use Rattle.base.proofs.TestLaws.{cases, pick-true, pick-false, both-absurd}
 
@@ -43,9 +44,9 @@ from-within test i zero = omega arith
 from-within test i (suc c) =
     cases (test i) (λ e. rw e (omega arith)) (λ e. rw e (omega (arith, from-within test (suc i) c)))
 
-pub within : (test : ℕ → Bool) (n : ℕ) → lowest test n ≤ n
+pub lowest-bound : (test : ℕ → Bool) (n : ℕ) → lowest test n ≤ n
 unfolding lowest
-within test n = omega (arith, from-within test 0 n)
+lowest-bound test n = omega (arith, from-within test 0 n)
 
 -- nothing before what is found passes
 from-before : (test : ℕ → Bool) (i c k : ℕ) → i ≤ k → k < lowestFrom test i c → test k ≡ false
@@ -82,7 +83,7 @@ pub none-passes : (test : ℕ → Bool) (n : ℕ) → ((k : ℕ) → k < n → t
 none-passes test n h =
     elim (decLt (lowest test n) n) [
       | yes l ↦ both-absurd (test (lowest test n)) (passes test n l) (h (lowest test n) l)
-      | no l ↦ let w : lowest test n ≤ n = within test n in omega arith
+      | no l ↦ let w : lowest test n ≤ n = lowest-bound test n in omega arith
     ]
 
 -- tests that agree below n have the same lowest position
@@ -112,6 +113,25 @@ no-some test n e k l = before test n k (omega (arith, ltb-false (lowest test n) 
 pub none-some : (test : ℕ → Bool) (n : ℕ) → ((k : ℕ) → k < n → test k ≡ false) → someBelow test n ≡ false
 unfolding someBelow
 none-some test n h = le-ltb (lowest test n) n (omega (arith, none-passes test n h))
+
+-- below the first position none passes
+pub some-none : (test : ℕ → Bool) → someBelow test 0 ≡ false
+some-none test = none-some test 0 (λ k l. absurd (omega arith))
+
+-- one position more
+pub some-more : (test : ℕ → Bool) (n : ℕ) → someBelow test (n + 1) ≡ or (someBelow test n) (test n)
+unfolding someBelow
+some-more test n =
+    cases (someBelow test n)
+    (λ e. let l : lowest test n < n = ltb-true (lowest test n) n e in rw e (some-passes test (n + 1) (lowest test n) (omega arith) (passes test n l)))
+    (λ e.
+    rw e
+    (cases (test n)
+    (λ p. rw p (some-passes test (n + 1) n (omega arith) p))
+    (λ p.
+    rw p
+    (none-some test (n + 1) (λ k l.
+    elim (decLt k n) [ yes m ↦ no-some test n e k m | no m ↦ let s : k ≡ n = omega arith in rw s p ])))))
 
 -- A search from the first position upwards: no position below k passes the test, so the lowest is still to be found from k on.
 pub record Searched (test : ℕ → Bool) (n k : ℕ) : Type 0 where

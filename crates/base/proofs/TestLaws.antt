@@ -1,7 +1,7 @@
 -- Laws of tests and of what a test picks.
 
 use mathlib.Core.Path.{_≡_, refl, sym, subst, subst⁻¹}
-use mathlib.Core.Bool.{Bool, true, false}
+use mathlib.Core.Bool.{Bool, true, false, _&&_, _||_}
 use lib.Dec.{T}
 use Rattle.base.specs.Tests.{pick, and, or}
 
@@ -51,6 +51,15 @@ or-second a b p = rw p
 
 pub or-first : (a b : Bool) → a ≡ true → or a b ≡ true
 or-first a b p = rw p
+
+-- the tests that the code computes with `&` and `|`
+pub and-is : (a b : Bool) → (a && b) ≡ and a b
+and-is true b = refl
+and-is false b = refl
+
+pub or-is : (a b : Bool) → (a || b) ≡ or a b
+or-is true b = refl
+or-is false b = refl
 
 -- two tests are equal where each holds if the other does
 pub same-test : (a b : Bool) → (a ≡ true → b ≡ true) → (b ≡ true → a ≡ true) → a ≡ b

@@ -2,4 +2,5 @@ pub mod Limits
 pub mod Tests
 pub mod Lowest
 pub mod Places
+pub mod Members
 pub mod Lent

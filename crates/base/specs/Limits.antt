@@ -1,9 +1,13 @@
 -- The limits of the planner, named once for every definition. The code's names for the same numbers are the constants of src/lib.rt.
-use Prim.Native.Nat.{ℕ}
+use Prim.Native.Nat.{ℕ, _-_, _*_}
 
 -- the most tasks of a table, and the places of a table value
 abbrev pub maxTasks : ℕ
 maxTasks = 64
+
+-- the most runs of a plan: 2n − 1 for n tasks
+abbrev pub maxPlanRuns : ℕ
+maxPlanRuns = 2 * maxTasks - 1
 
 -- the most runs of a run list
 abbrev pub maxRuns : ℕ
@@ -23,4 +27,4 @@ maxTicks = 16_383
 
 -- the greatest tick that a frame can mean: the last frame at the longest period
 abbrev pub lastTick : ℕ
-lastTick = 536_735_745
+lastTick = lastFrame * maxPeriod

@@ -4,6 +4,9 @@
 // The most tasks of a table, and the places of a table value.
 pub const MAX_TASKS: usize = 64;
 
+// The most runs of a plan: 2n − 1 for n tasks.
+pub const MAX_PLAN_RUNS: usize = 2 * MAX_TASKS - 1;
+
 // The most runs of a run list.
 pub const MAX_RUNS: usize = 4096;
 

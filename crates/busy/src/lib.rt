@@ -1,6 +1,5 @@
 // The busy count of an interval (an entry point): over all runs, the ticks that the run shares with the interval.
 ghost use mathlib.Core.Path.{_≡_};
-ghost use Rattle.schedule.specs.declared.Run.{Run};
 ghost use Rattle.schedule.specs.BusyCount.{shared, busyReply};
 use schedule::Busy;
 

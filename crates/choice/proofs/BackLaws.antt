@@ -11,13 +11,13 @@ use borrow.Author.Tests.{leb-true, leb-false, eq-eqb, ne-eqb}
 use Rattle.base.specs.Limits.{maxTasks}
 use Rattle.base.specs.Places.{places, firstPlaces}
 use Rattle.base.proofs.PlaceLaws.{places-length, places-is, left-start, left-step}
-use Rattle.base.proofs.Filling.{Filled, filled-start, filled-set}
+use Rattle.base.proofs.ArrayFilling.{Filled, filled-start, filled-set}
 use Rattle.base.proofs.TestLaws.{pick-cases}
 use Rattle.schedule.specs.declared.Job.{Job}
 use Rattle.choice.specs.Choice.{countOne}
-use Rattle.choice.specs.Rows.{keeping, backtrack}
+use Rattle.choice.specs.Programme.{keeping, backtrack}
 use Rattle.choice.specs.Decisions.{rowPlaces, hugeTicks, rowOf, backOf, keepsOver, jobsFrom, Decided}
-use Rattle.choice.proofs.RowLaws.{row-is, keeping-is, row-below}
+use Rattle.choice.proofs.ProgrammeLaws.{row-is, keeping-is, row-below}
 
 -- the marks where a job is kept, and the row inside it, which is below huge
 pub back-kept : (job : Job) (jobs : List Job) (v : ℕ) → rowOf (job ∷ jobs) v < hugeTicks → keepsOver job (rowOf jobs) v ≡ true

@@ -6,7 +6,7 @@ use mathlib.Core.Bool.{Bool, true}
 use Rattle.base.specs.Tests.{and}
 use Rattle.base.proofs.TestLaws.{and-left, and-right, pick-cases, and-not-second}
 use Rattle.choice.specs.Choice.{lexLess, better, best}
-use Rattle.choice.proofs.OrderLaws.{LexAtMost, atMost-refl, atMost-trans, less→atMost, notLess→atMost}
+use Rattle.choice.proofs.LexLaws.{LexAtMost, atMost-refl, atMost-trans, less→atMost, notLess→atMost}
 
 module _ {A : Type 0} (fit : A → Bool) (key : A → List ℕ) where
   -- the better of two fits

@@ -13,11 +13,11 @@ use Rattle.base.specs.Places.{placesFrom, places}
 use Rattle.base.proofs.PlaceLaws.{left-step, left-end}
 use Rattle.base.proofs.TestLaws.{pick-cases}
 use Rattle.schedule.specs.declared.Job.{Job}
-use Rattle.schedule.specs.Jobs.{Bounded, counts}
-use Rattle.choice.specs.Choice.{windowTicks, fits, keepNone, countOne, kept, discarded, chosen}
-use Rattle.choice.specs.Rows.{mandatorySum, outermostTicks, allWorth, within, keeping, row, greatest, bestWorth, byRows}
+use Rattle.schedule.specs.Jobs.{Bounded, counts, windowTicks}
+use Rattle.choice.specs.Choice.{fits, keepNone, countOne, kept, discarded, chosen}
+use Rattle.choice.specs.Programme.{mandatorySum, outermostTicks, allWorth, ifRoom, keeping, row, greatest, bestWorth, byRows}
 use Rattle.choice.specs.Decisions.{rowPlaces, hugeTicks, rowOf, backOf, outerRow, keepsOver, jobsFrom, Rewritten, Decided}
-use Rattle.choice.proofs.RowLaws.{row-most, row-beyond}
+use Rattle.choice.proofs.ProgrammeLaws.{row-most, row-beyond}
 use Rattle.choice.proofs.FitLaws.{ticks-outermost, worth-split}
 use Rattle.choice.proofs.ChoiceLaws.{chosen-rows, chosen-keeps}
 
@@ -27,7 +27,7 @@ countOne-most job = pick-cases (λ n. n ≤ 1) (counts job) (λ e. omega arith) 
 
 -- a number of the row outside, from the window, and the ticks with the job kept and with it discarded
 pub outer-made : (job : Job) (mandatory : ℕ) (inner : ℕ → ℕ) (v window with without r : ℕ) → window ≡ windowTicks job
-    → with ≡ keeping countOne hugeTicks job inner v → without ≡ inner v → r ≡ within hugeTicks mandatory window (min with without)
+    → with ≡ keeping countOne hugeTicks job inner v → without ≡ inner v → r ≡ ifRoom hugeTicks mandatory window (min with without)
     → r ≡ outerRow job mandatory inner v
 unfolding outerRow
 outer-made job mandatory inner v window with without r e k d m = m ∙ rw (e, k, d)

@@ -11,12 +11,12 @@ use Rattle.base.proofs.TestLaws.{both-absurd, pick-cases}
 use Rattle.schedule.specs.declared.Job.{Job}
 use Rattle.schedule.specs.Jobs.{noJob, counts}
 use Rattle.choice.specs.Choice.{worksFit, worksOf, fits, keepLists, keepNone, keptTicks, discardMarks, discardedWorth, keptWorth}
-use Rattle.choice.specs.Choice.{key, chosenBy, KeepsFirst, Taken, counted, chosen, ZeroKept}
-use Rattle.choice.specs.Rows.{outermostTicks, allWorth, row, backtrack, bestWorth, byRows}
-use Rattle.choice.proofs.OrderLaws.{LexAtMost, atMost-refl}
+use Rattle.choice.specs.Choice.{key, chosenBy, KeepsFirst, MeetsRules, counted, chosen, ZeroKept}
+use Rattle.choice.specs.Programme.{outermostTicks, allWorth, row, backtrack, bestWorth, byRows}
+use Rattle.choice.proofs.LexLaws.{LexAtMost, atMost-refl}
 use Rattle.choice.proofs.BestLaws.{best-fits, best-others}
 use Rattle.choice.proofs.FitLaws.{fits-tail, fits-length, none-fits, ticks-outermost, worth-split}
-use Rattle.choice.proofs.RowLaws.{Keeps, row-least, backtrack-keeps, backtrack-first, greatest-is, backtrack-zero}
+use Rattle.choice.proofs.ProgrammeLaws.{Keeps, row-least, backtrack-keeps, backtrack-first, greatest-is, backtrack-zero}
 
 -- The tie rule.
 
@@ -97,9 +97,9 @@ module _ (worth : Job → ℕ) where
       marks-same a b (l .1 d .1 t) (m .1 (sym d) .1 (sym t))
 
   -- it is the list that the rules take
-  pub best-taken : (jobs : List Job) (keeps : List Bool) → Best jobs keeps → Taken worth jobs keeps
+  pub best-meets : (jobs : List Job) (keeps : List Bool) → Best jobs keeps → MeetsRules worth jobs keeps
   unfolding LexAtMost key
-  best-taken jobs keeps b =
+  best-meets jobs keeps b =
       record {
         fit = b .fit;
         leastDiscarded = λ other e. b .least other e .0;
@@ -109,9 +109,9 @@ module _ (worth : Job → ℕ) where
       }
 
   -- and the list that the rules take is it
-  pub taken-best : (jobs : List Job) (keeps : List Bool) → Taken worth jobs keeps → Best jobs keeps
+  pub meets-best : (jobs : List Job) (keeps : List Bool) → MeetsRules worth jobs keeps → Best jobs keeps
   unfolding LexAtMost key
-  taken-best jobs keeps t =
+  meets-best jobs keeps t =
       record {
         fit = t .fit;
         least = λ other e. (
@@ -121,8 +121,8 @@ module _ (worth : Job → ℕ) where
       }
 
   -- the rules take one list at most
-  pub taken-unique : (jobs : List Job) (a b : List Bool) → Taken worth jobs a → Taken worth jobs b → a ≡ b
-  taken-unique jobs a b p q = best-unique jobs a b (taken-best jobs a p) (taken-best jobs b q)
+  pub rules-unique : (jobs : List Job) (a b : List Bool) → MeetsRules worth jobs a → MeetsRules worth jobs b → a ≡ b
+  rules-unique jobs a b p q = best-unique jobs a b (meets-best jobs a p) (meets-best jobs b q)
 
   -- the chosen list is best
   pub chosen-best : (jobs : List Job) → fits jobs (keepNone jobs) ≡ true → Best jobs (chosenBy worth jobs)
@@ -135,12 +135,12 @@ module _ (worth : Job → ℕ) where
 
   -- The choice meets the rules: it fits, no list that fits discards less, of those that discard as much none keeps fewer ticks, and of those
   -- that keep as many every other discards at the outermost job where the two differ.
-  pub chosen-taken : (jobs : List Job) → fits jobs (keepNone jobs) ≡ true → Taken worth jobs (chosenBy worth jobs)
-  chosen-taken jobs none = best-taken jobs _ (chosen-best jobs none)
+  pub chosen-meets : (jobs : List Job) → fits jobs (keepNone jobs) ≡ true → MeetsRules worth jobs (chosenBy worth jobs)
+  chosen-meets jobs none = best-meets jobs _ (chosen-best jobs none)
 
   -- A list that meets the rules is the chosen one.
-  pub taken-chosen : (jobs : List Job) (keeps : List Bool) → Taken worth jobs keeps → keeps ≡ chosenBy worth jobs
-  taken-chosen jobs keeps t = taken-unique jobs _ _ t (chosen-taken jobs (none-fits jobs keeps (t .fit)))
+  pub meets-chosen : (jobs : List Job) (keeps : List Bool) → MeetsRules worth jobs keeps → keeps ≡ chosenBy worth jobs
+  meets-chosen jobs keeps t = rules-unique jobs _ _ t (chosen-meets jobs (none-fits jobs keeps (t .fit)))
 
   -- The chosen list has one mark a job.
   pub chosen-length : (jobs : List Job) → fits jobs (keepNone jobs) ≡ true → length (chosenBy worth jobs) ≡ length jobs

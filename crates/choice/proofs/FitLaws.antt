@@ -8,10 +8,10 @@ use lib.ListN.{length}
 use Rattle.base.specs.Tests.{and}
 use Rattle.base.proofs.TestLaws.{cases, both-absurd}
 use Rattle.schedule.specs.declared.Job.{Job}
-use Rattle.schedule.specs.Jobs.{workOf, counts}
+use Rattle.schedule.specs.Jobs.{workOf, counts, windowTicks, workWith}
 use Rattle.schedule.specs.Ticks.{one}
-use Rattle.choice.specs.Choice.{windowTicks, workWith, total, worksFit, worksOf, totalWork, fits, keepNone, keptTicks, discardedWorth, keptWorth, kept, discarded}
-use Rattle.choice.specs.Rows.{mandatorySum, outermostTicks, allWorth}
+use Rattle.choice.specs.Choice.{total, worksFit, worksOf, totalWork, fits, keepNone, keptTicks, discardedWorth, keptWorth, kept, discarded}
+use Rattle.choice.specs.Programme.{mandatorySum, outermostTicks, allWorth}
 use Rattle.choice.proofs.WorkLaws.{NoMore, SameWindows, works-head, works-tail, works-cons, works-less, works-windows}
 
 -- the work under a Bool mark is the work under the mark as a number

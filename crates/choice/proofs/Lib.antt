@@ -1,8 +1,8 @@
-pub mod OrderLaws
+pub mod LexLaws
 pub mod WorkLaws
 pub mod FitLaws
 pub mod BestLaws
-pub mod RowLaws
+pub mod ProgrammeLaws
 pub mod ChoiceLaws
 pub mod RewriteLaws
 pub mod BuildLaws

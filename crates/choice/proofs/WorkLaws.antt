@@ -9,7 +9,8 @@ use lib.ListN.{length}
 use borrow.Author.Tests.{leb-true, le-leb}
 use Rattle.base.proofs.TestLaws.{both-absurd, and-true, and-left, and-right}
 use Rattle.schedule.specs.declared.Job.{Job}
-use Rattle.choice.specs.Choice.{windowTicks, total, worksFit}
+use Rattle.choice.specs.Choice.{total, worksFit}
+use Rattle.schedule.specs.Jobs.{windowTicks}
 
 -- where works fit, the first window has room for all of them
 pub works-head : (job : Job) (jobs : List Job) (work : ℕ) (works : List ℕ) → worksFit (job ∷ jobs) (work ∷ works) ≡ true

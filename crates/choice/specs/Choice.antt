@@ -1,6 +1,6 @@
 -- Which optional parts a plan keeps. Jobs stand outermost first (nest order from its last to its first), and so do the marks of a keep list:
 -- true keeps the optional part of its job, false discards it. The jobs before one in nest order are those after it in the list.
-use Prim.Native.Nat.{ℕ, _+_, _-_, _≤_}
+use Prim.Native.Nat.{ℕ, _+_, _≤_}
 use mathlib.Core.Path.{_≡_}
 use mathlib.Core.Logic.{_⊎_}
 use mathlib.Core.List.{List, [], _∷_, _++_, map}
@@ -8,16 +8,8 @@ use mathlib.Core.Bool.{Bool, true, false, not}
 use lib.Dec.{leb, ltb, eqb}
 use Rattle.base.specs.Tests.{pick, and}
 use Rattle.schedule.specs.declared.Job.{Job}
-use Rattle.schedule.specs.Jobs.{counts}
+use Rattle.schedule.specs.Jobs.{counts, windowTicks, workWith}
 use Rattle.schedule.specs.Ticks.{one}
-
--- the ticks of a window, from its release, included, to its deadline, excluded; none where the deadline is not after the release
-abbrev pub windowTicks : Job → ℕ
-windowTicks job = job .deadline - job .release
-
--- 'A task's work is its mandatory ticks, plus its optional ticks where kept.'
-abbrev pub workWith : Job → Bool → ℕ
-workWith job keep = job .mandatory + pick keep (job .optional) 0
 
 -- the sum of some works
 unfoldable pub total : List ℕ → ℕ
@@ -108,7 +100,7 @@ module _ (worth : Job → ℕ) where
   chosenBy jobs = best (fits jobs) (key jobs) (keepNone jobs) (keepLists jobs)
 
 -- What the rules ask of the list that is taken, rule by rule, as statements about every other list that fits. The choice meets them, and no other
--- list does: the theorems `chosen-taken` and `taken-chosen`.
+-- list does: the theorems `chosen-meets` and `meets-chosen`.
 
 -- two lists differ, and at the outermost job where they do, the first keeps: up to that job both have the marks `same`
 pub record KeepsFirst (a b : List Bool) : Type 0 where
@@ -120,7 +112,7 @@ pub record KeepsFirst (a b : List Bool) : Type 0 where
 
 -- the list fits; no list that fits discards less; of those that discard as much none keeps fewer ticks; and it keeps at the outermost job where
 -- it differs from another of those that keep as many
-pub record Taken (worth : Job → ℕ) (jobs : List Job) (keeps : List Bool) : Type 0 where
+pub record MeetsRules (worth : Job → ℕ) (jobs : List Job) (keeps : List Bool) : Type 0 where
   pub fit : fits jobs keeps ≡ true
   pub leastDiscarded : (other : List Bool) → fits jobs other ≡ true → discardedWorth worth jobs keeps ≤ discardedWorth worth jobs other
   pub leastTicks : (other : List Bool) → fits jobs other ≡ true → discardedWorth worth jobs other ≡ discardedWorth worth jobs keeps
@@ -147,6 +139,10 @@ discarded = discardedWorth countOne
 -- the planner's keep list
 abbrev pub chosen : List Job → List Bool
 chosen = chosenBy countOne
+
+-- what the choice comes to for some jobs: their keep list, and its counts kept and discarded
+abbrev pub ChosenFor : List Job → List Bool → ℕ → ℕ → Type 0
+ChosenFor jobs keeps k d = (keeps ≡ chosen jobs) × (k ≡ kept jobs (chosen jobs)) × (d ≡ discarded jobs (chosen jobs))
 
 -- 'An optional part of 0 ticks is marked 1': the list has one mark a job, and true for each such part
 abbrev pub ZeroKept : List Job → List Bool → Type 0

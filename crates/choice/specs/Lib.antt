@@ -1,4 +1,4 @@
 pub mod Choice
-pub mod Rows
+pub mod Programme
 pub mod Decisions
 pub mod ChoiceSamples

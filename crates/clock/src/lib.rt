@@ -1,5 +1,6 @@
 // The frame clock: from a frame and a period p/q to a tick. A tick is one millisecond, one frame lasts p/q ticks, and frame 0 begins at
-// tick 0. Both functions multiply first and divide once, so no error is carried from frame to frame.
+// tick 0. Both functions multiply first and divide once, so no error is carried from frame to frame. They take one frame more than a table can
+// name: a frame ends where the next begins, so that frame's tick is where the last frame ends.
 ghost use mathlib.Core.Path.{_≡_};
 ghost use Prim.Native.Nat.{_+_, _≤_};
 ghost use Rattle.base.specs.Limits.{lastFrame};

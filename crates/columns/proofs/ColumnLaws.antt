@@ -1,16 +1,14 @@
 -- Laws of a column into which a number is put, and of one that is copied.
 use Prim.Native.Nat.{ℕ, suc, _+_, _-_, _≤_, _<_}
 use mathlib.Core.Path.{_≡_, refl, sym, ap, _∙_}
-use mathlib.Core.Logic.{_≢_}
-use mathlib.Core.List.{List, _∷_, _++_}
+use mathlib.Core.List.{List, _++_}
 use native.Mathlib.Omega.{arith}
 use native.Mathlib.Decide.{decLt, decLe, ℕ-discrete}
 use lib.ListN.{length, getD, take, drop, set, length-append, length-drop, length-set, take-append-drop}
 use lib.Seq.{getD-set-same, getD-set-other, drop-set-lt}
 use borrow.Author.Tests.{lt-ltb, le-ltb, le-leb, lt-leb, eq-eqb, ne-eqb}
-use Rattle.base.specs.Tests.{pick}
 use Rattle.base.specs.Places.{placesFrom}
-use Rattle.base.proofs.PlaceLaws.{left-step, left-end, from-length}
+use Rattle.base.proofs.PlaceLaws.{from-length}
 use Rattle.base.proofs.Storing.{Stored, stored-start, stored-next}
 use Rattle.columns.specs.Columns.{insertedAt}
 

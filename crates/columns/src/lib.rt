@@ -1,16 +1,16 @@
 // Columns of numbers: a number put in at a place, and a part copied into a lent column.
 ghost use mathlib.Core.Path.{_≡_};
 ghost use mathlib.Core.List.{_++_};
-ghost use Prim.Native.Nat.{ℕ, _+_, _≤_, _<_};
+ghost use Prim.Native.Nat.{_+_, _≤_, _<_};
 ghost use lib.ListN.{length, getD, drop};
 ghost use Rattle.base.specs.Places.{placesFrom};
-ghost use Rattle.columns.specs.Columns.{insertedAt};
+ghost use Rattle.columns.specs.Columns.{Inserted};
 
 // A number put in at place `at`: what stood from there to place `end`, excluded, moves up by one, and what stood at `end` is lost.
 pub fn insert(column: &mut [u32], at: usize, end: usize, number: u32)
     requires { ⌜ at ≤ end ⌝ }
     requires { ⌜ end < length (now column) ⌝ }
-    ensures { λ _. ⌜ (length (now (column .exit)) ≡ length (now (column .entry))) × ((j : ℕ) → getD (now (column .exit)) j 0 ≡ insertedAt at end number (λ k. getD (now (column .entry)) k 0) j) ⌝ }
+    ensures { λ _. ⌜ Inserted at end number (now (column .entry)) (now (column .exit)) ⌝ }
 {
     let mut k = end;
     while at < k {

@@ -7,9 +7,9 @@ ghost use Rattle.table.specs.Writing.{writeReply, writtenOver};
 ghost use Rattle.table.specs.Moving.{moveReply, movedOver};
 ghost use Rattle.schedule.specs.Judging.{judged};
 ghost use Rattle.schedule.specs.BusyCount.{busyReply};
-ghost use Rattle.planner.specs.Planning.{planReply, marksAfter, startsAfter, endsAfter, tasksAfter};
+ghost use Rattle.plans.specs.Planning.{lent, planReply, listsAfter};
 ghost use Rattle.exports.specs.FileRead.{tableRead};
-use planner::Planned;
+use plans::Planned;
 use schedule::Busy;
 use schedule::Judged;
 use table::Table;
@@ -67,11 +67,9 @@ pub extern "C" fn planner_plan(
     ends: &mut [u32],
     tasks: &mut [u32],
 ) -> Planned
-    ensures reply { λ r. ⌜ r ≡ planReply (now (file .entry)) (length (now (marks .entry))) (length (now (starts .entry))) (length (now (ends .entry))) (length (now (tasks .entry))) ⌝ }
-    ensures marks_after { λ r. ⌜ now (marks .exit) ≡ marksAfter (tableIn (now (file .entry))) (r .number) (now (marks .entry)) ⌝ }
-    ensures starts_after { λ r. ⌜ now (starts .exit) ≡ startsAfter (tableIn (now (file .entry))) (r .number) (now (starts .entry)) ⌝ }
-    ensures ends_after { λ r. ⌜ now (ends .exit) ≡ endsAfter (tableIn (now (file .entry))) (r .number) (now (ends .entry)) ⌝ }
-    ensures tasks_after { λ r. ⌜ now (tasks .exit) ≡ tasksAfter (tableIn (now (file .entry))) (r .number) (now (tasks .entry)) ⌝ }
+    ensures reply { λ r. ⌜ r ≡ planReply (now (file .entry)) (lent (now (marks .entry)) (now (starts .entry)) (now (ends .entry)) (now (tasks .entry))) ⌝ }
+    ensures lists_after { λ r. ⌜ lent (now (marks .exit)) (now (starts .exit)) (now (ends .exit)) (now (tasks .exit))
+        ≡ listsAfter (tableIn (now (file .entry))) r (lent (now (marks .entry)) (now (starts .entry)) (now (ends .entry)) (now (tasks .entry))) ⌝ }
 {
     planner::plan(file, marks, starts, ends, tasks)
 }

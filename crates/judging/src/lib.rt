@@ -1,8 +1,7 @@
 // Judging a keep list and a run list (an entry point): one pass over the runs and one over the tasks, in a fixed amount of memory.
 ghost use mathlib.Core.Path.{_≡_};
-ghost use mathlib.Core.Bool.{true, not};
-ghost use mathlib.Core.Logic.{_↔_};
-ghost use Prim.Native.Nat.{ℕ, _≤_, _<_};
+ghost use mathlib.Core.Bool.{not};
+ghost use Prim.Native.Nat.{_≤_};
 ghost use lib.Dec.{eqb};
 ghost use lib.ListN.{length, getD};
 ghost use Rattle.base.specs.Limits.{maxTasks, maxRuns};
@@ -12,8 +11,8 @@ ghost use Rattle.table.specs.Writing.{Legal};
 ghost use Rattle.schedule.specs.Jobs.{noJob, workOf, counts};
 ghost use Rattle.schedule.specs.Ticks.{countBelow};
 ghost use Rattle.schedule.specs.Runs.{runsOf};
-ghost use Rattle.schedule.specs.Judging.{totalOf, firstBadMark, judgeDeclined, judgeTable, judged, Fair};
-ghost use Rattle.judging.specs.Passing.{passes, runFits, fair};
+ghost use Rattle.schedule.specs.Judging.{firstBadMark, judgeDeclined, judgeTable, judged, Sound};
+ghost use Rattle.schedule.specs.Passing.{runFits, Passed, verdictByPass};
 use base::MAX_TASKS;
 use schedule::Job;
 use schedule::Judged;
@@ -40,13 +39,13 @@ fn declined(number: u32, place: usize) -> Judged
 }
 
 // The reply of a verdict, with its counts.
-fn says(fair: bool, kept: u32, discarded: u32) -> Judged
-    ensures { λ r. ⌜ r ≡ record { number = 0; place = 0; yes = fair; kept = kept; discarded = discarded } ⌝ }
+fn says(accepts: bool, kept: u32, discarded: u32) -> Judged
+    ensures { λ r. ⌜ r ≡ record { number = 0; place = 0; yes = accepts; kept = kept; discarded = discarded } ⌝ }
 {
     Judged {
         number: 0,
         place: 0,
-        yes: fair,
+        yes: accepts,
         kept,
         discarded,
     }
@@ -94,7 +93,7 @@ fn pass_runs(
     requires { ⌜ length (now starts) ≤ maxRuns ⌝ }
     requires { ⌜ length (now starts) ≡ length (now ends) ⌝ }
     requires { ⌜ length (now starts) ≡ length (now tasks) ⌝ }
-    ensures { λ r. ⌜ (r .fits ≡ passes (λ k. getD jobs k noJob) count 0 (runsOf (now (starts .entry)) (now (ends .entry)) (now (tasks .entry)))) × (r .fits ≡ true → (k : ℕ) → k < maxTasks → getD (r .totals) k 0 ≡ totalOf (runsOf (now (starts .entry)) (now (ends .entry)) (now (tasks .entry))) k) ⌝ }
+    ensures { λ r. ⌜ Passed (λ k. getD jobs k noJob) count (runsOf (now (starts .entry)) (now (ends .entry)) (now (tasks .entry))) (r .fits) (r .totals) ⌝ }
 {
     let mut totals = [0u64; MAX_TASKS];
     let mut from: u32 = 0;
@@ -172,7 +171,7 @@ fn count_marked(jobs: [Job; MAX_TASKS], count: u32, marks: &[u8], mark: u8) -> u
 }
 
 // All five conditions of a yes.
-fn is_fair(
+fn verdict_of(
     jobs: [Job; MAX_TASKS],
     count: u32,
     marks: &[u8],
@@ -184,7 +183,8 @@ fn is_fair(
     requires { ⌜ length (now marks) ≡ count ⌝ }
     requires { ⌜ length (now starts) ≤ maxRuns ⌝ }
     requires { ⌜ (length (now starts) ≡ length (now ends)) × (length (now starts) ≡ length (now tasks)) ⌝ }
-    ensures { λ r. ⌜ r ≡ fair (λ k. getD jobs k noJob) count (now (marks .entry)) (runsOf (now (starts .entry)) (now (ends .entry)) (now (tasks .entry))) ⌝ }
+    ensures { λ r. ⌜ r ≡ verdictByPass (λ k. getD jobs k noJob) count (now (marks .entry))
+        (runsOf (now (starts .entry)) (now (ends .entry)) (now (tasks .entry))) ⌝ }
 {
     let pass = pass_runs(jobs, count, starts, ends, tasks);
     let fits = pass.fits;
@@ -212,7 +212,7 @@ fn judge_table(table: Table, marks: &[u8], starts: &[u32], ends: &[u32], tasks: 
         return declined(13, 0);
     }
     let jobs = schedule::jobs_of(table);
-    if is_fair(jobs, table.count, marks, starts, ends, tasks) {
+    if verdict_of(jobs, table.count, marks, starts, ends, tasks) {
         let kept = count_marked(jobs, table.count, marks, 1);
         let discarded = count_marked(jobs, table.count, marks, 0);
         return says(true, kept, discarded);
@@ -223,7 +223,7 @@ fn judge_table(table: Table, marks: &[u8], starts: &[u32], ends: &[u32], tasks: 
 // Judging: any bytes, marks and columns get the reply of document 01.
 pub fn judge(file: &[u8], marks: &[u8], starts: &[u32], ends: &[u32], tasks: &[u32]) -> Judged
     ensures reply { λ r. ⌜ r ≡ judged (now (file .entry)) (now (marks .entry)) (now (starts .entry)) (now (ends .entry)) (now (tasks .entry)) ⌝ }
-    ensures sound { λ r. ⌜ (r .number ≡ 0 → (r .yes ≡ true) ↔ Fair (now (file .entry)) (now (marks .entry)) (runsOf (now (starts .entry)) (now (ends .entry)) (now (tasks .entry)))) ⌝ }
+    ensures sound { λ r. ⌜ Sound (now (file .entry)) (now (marks .entry)) (runsOf (now (starts .entry)) (now (ends .entry)) (now (tasks .entry))) r ⌝ }
 {
     let read = reading::read(file);
     let answer = read.answer;

@@ -14,9 +14,10 @@ use Rattle.schedule.specs.declared.Job.{Job}
 use Rattle.schedule.specs.declared.Run.{Run}
 use Rattle.schedule.specs.Jobs.{jobAt, jobsOf, counts}
 use Rattle.schedule.specs.Ticks.{Owner, one}
-use Rattle.schedule.specs.Runnings.{Holds, got, RunningOf, Whole, Running, discards}
+use Rattle.schedule.specs.Runnings.{WindowHolds, got, RunningOf, Whole, Running, discards}
 use Rattle.schedule.specs.Runs.{ownerOf, TogetherOf}
-use Rattle.schedule.proofs.JudgeLaws.{all-members, all-places, any-places, discards-places}
+use Rattle.schedule.proofs.JudgeLaws.{discards-places}
+use Rattle.base.proofs.MemberLaws.{all-members, all-places, any-places}
 use Rattle.choice.specs.Choice.{fits, keepNone, chosen, discarded}
 use Rattle.placement.specs.Placing.{placed}
 use Rattle.placement.specs.Outcomes.{Fewest}
@@ -32,12 +33,12 @@ running-of-order May t owner =
     let Right : Job → Type 0 = λ job. May job (got owner job) in (
       λ r.
           record {
-            inside = λ tick i e. any-outermost t (Holds tick i) .1 (any-places (Holds tick i) (jobAt t) (t .count) .0 (r .inside tick i e));
+            inside = λ tick i e. any-outermost t (WindowHolds tick i) .1 (any-places (WindowHolds tick i) (jobAt t) (t .count) .0 (r .inside tick i e));
             gets = all-outermost t Right (all-places Right (jobAt t) (t .count) .0 (r .gets));
           },
       λ r.
           record {
-            inside = λ tick i e. any-places (Holds tick i) (jobAt t) (t .count) .1 (any-outermost t (Holds tick i) .0 (r .inside tick i e));
+            inside = λ tick i e. any-places (WindowHolds tick i) (jobAt t) (t .count) .1 (any-outermost t (WindowHolds tick i) .0 (r .inside tick i e));
             gets = all-places Right (jobAt t) (t .count) .1
                 (λ k l. all-members Right (jobsOutermostFirst t) .0 (r .gets) (jobAt t k) (any-outermost t (λ other. other ≡ jobAt t k) .1 (k, l, refl)));
           },

@@ -1,1 +1,2 @@
 pub mod NestOrder
+pub mod Keys

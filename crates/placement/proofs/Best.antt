@@ -10,13 +10,14 @@ use borrow.Author.Tests.{ne-eqb, eq-eqb, ltb-true}
 use Rattle.base.specs.Tests.{and}
 use Rattle.base.proofs.TestLaws.{cases, both-absurd}
 use Rattle.schedule.specs.declared.Job.{Job}
-use Rattle.schedule.specs.Jobs.{counts}
+use Rattle.schedule.specs.Jobs.{counts, workWith}
 use Rattle.schedule.specs.Ticks.{Owner}
-use Rattle.schedule.specs.Runnings.{All, got, RunningOf, Whole, Running, discards}
-use Rattle.choice.specs.Choice.{workWith, worksFit, worksOf, fits, keepNone, discardedWorth, countOne, discarded, chosen}
+use Rattle.schedule.specs.Runnings.{got, RunningOf, Whole, Running, discards}
+use Rattle.base.specs.Members.{All}
+use Rattle.choice.specs.Choice.{worksFit, worksOf, fits, keepNone, discardedWorth, countOne, discarded, chosen}
 use Rattle.choice.proofs.FitLaws.{fits-tail, none-fits, discarded-cons}
-use Rattle.choice.proofs.ChoiceLaws.{chosen-taken}
-use Rattle.placement.specs.Nesting.{Chain}
+use Rattle.choice.proofs.ChoiceLaws.{chosen-meets}
+use Rattle.placement.specs.Chains.{Chain}
 use Rattle.placement.specs.Placing.{worksPlaced, placed}
 use Rattle.placement.specs.Outcomes.{GetsWorks, GetsWork, MayGet, Fewest}
 use Rattle.placement.proofs.Necessity.{marksOf, running-fits, running-discards}
@@ -93,7 +94,7 @@ list-least jobs keeps c least owner r = omega (arith, least (marksOf jobs owner)
 module _ (jobs : List Job) (c : Chain jobs) (none : fits jobs (keepNone jobs) ≡ true) where
   -- it fits
   pub chosen-fits : fits jobs (chosen jobs) ≡ true
-  chosen-fits = chosen-taken countOne jobs none .fit
+  chosen-fits = chosen-meets countOne jobs none .fit
 
   -- Placed, it is a running,
   pub chosen-running : Running jobs (placed jobs (chosen jobs))
@@ -109,7 +110,7 @@ module _ (jobs : List Job) (c : Chain jobs) (none : fits jobs (keepNone jobs) �
 
   -- Every running of the jobs discards at least as many.
   pub chosen-least : (owner : Owner) → Running jobs owner → discarded jobs (chosen jobs) ≤ discards jobs owner
-  chosen-least owner r = list-least jobs (chosen jobs) c (chosen-taken countOne jobs none .leastDiscarded) owner r
+  chosen-least owner r = list-least jobs (chosen jobs) c (chosen-meets countOne jobs none .leastDiscarded) owner r
 
   -- A running discards just that many exactly where no running of the jobs discards fewer than it.
   pub chosen-fewest : (owner : Owner) → Running jobs owner → (discards jobs owner ≡ discarded jobs (chosen jobs)) ↔ Fewest jobs owner

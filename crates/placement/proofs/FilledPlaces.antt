@@ -9,12 +9,12 @@ use Rattle.base.specs.Places.{placesFrom, places, firstPlaces}
 use Rattle.base.proofs.PlaceLaws.{from-length, left-start, left-step, left-end}
 use Rattle.schedule.specs.declared.Job.{Job}
 use Rattle.schedule.specs.declared.Run.{Run}
-use Rattle.schedule.specs.Jobs.{noJob}
-use Rattle.schedule.specs.Runnings.{All}
-use Rattle.choice.specs.Choice.{workWith, worksFit, worksOf, fits}
-use Rattle.placement.specs.Nesting.{Chain}
+use Rattle.schedule.specs.Jobs.{noJob, workWith}
+use Rattle.base.specs.Members.{All}
+use Rattle.choice.specs.Choice.{worksFit, worksOf, fits}
+use Rattle.placement.specs.Chains.{Chain}
 use Rattle.placement.specs.Placing.{worksPlaced, latestFirst, outermostDeadline, worksRuns, runsPlaced}
-use Rattle.placement.specs.Filling.{fill, worksFilled}
+use Rattle.placement.specs.GapFilling.{fill, worksFilled}
 use Rattle.placement.specs.HeldRuns.{runsDown}
 use Rattle.placement.proofs.RunCount.{filled-few}
 use Rattle.placement.proofs.RunTicks.{deadlines, filled-latest}

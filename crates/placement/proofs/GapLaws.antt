@@ -5,7 +5,7 @@ use mathlib.Core.List.{List, [], _∷_, _++_, append-assoc, append-nil}
 use native.Mathlib.Omega.{arith}
 use lib.ListN.{length}
 use Rattle.schedule.specs.declared.Run.{Run}
-use Rattle.placement.specs.Filling.{addRun, fill}
+use Rattle.placement.specs.GapFilling.{addRun, fill}
 use Rattle.placement.specs.HeldRuns.{Closed, bottomOf}
 use Rattle.placement.proofs.RunCount.{fill-none}
 

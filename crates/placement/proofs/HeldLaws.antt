@@ -8,6 +8,7 @@ use lib.ListN.{length, drop}
 use Rattle.base.specs.Places.{placesFrom}
 use Rattle.base.specs.Lent.{writtenFront}
 use Rattle.base.proofs.PlaceLaws.{from-length}
+use Rattle.base.proofs.ListLaws.{map-places}
 use Rattle.schedule.specs.declared.Run.{Run}
 use Rattle.placement.specs.HeldRuns.{downFrom, runsDown, bottomOf, RunInserted}
 
@@ -120,12 +121,6 @@ unfolding runsDown
 runs-inserted old new k end run l h =
     let more : end + 1 - k ≡ suc (end - k) = omega arith in
     rw (more, down-lowest new k (end - k), h .here, down-higher new old k (end - k) (λ j a b. h .above j a (omega arith)))
-
--- a number of each run, by start
-pub map-places : {A B : Type 0} (part : A → B) (at : ℕ → A) (first n : ℕ) → map part (placesFrom at first n) ≡ placesFrom (λ k. part (at k)) first n
-unfolding placesFrom
-map-places part at first zero = refl
-map-places part at first (suc n) = rw (map-places part at (suc first) n)
 
 -- a lent column into which a number of each run was copied
 pub column-written : (part : Run → ℕ) (at : ℕ → Run) (runs : List Run) (first n : ℕ) (old new : List ℕ) → placesFrom at first n ≡ runs

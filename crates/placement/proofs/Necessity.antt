@@ -11,12 +11,14 @@ use Rattle.base.specs.Tests.{and}
 use Rattle.base.proofs.TestLaws.{cases}
 use Rattle.schedule.specs.declared.Job.{Job}
 use Rattle.schedule.specs.Ticks.{Owner, isTask, ticksOf}
-use Rattle.schedule.specs.Runnings.{All, got, Gets, Running, discards, Distinct}
+use Rattle.schedule.specs.Runnings.{got, Gets, Running, discards}
+use Rattle.base.specs.Members.{All, Distinct}
 use Rattle.schedule.proofs.TickLaws.{shares, count-grows, shares-fit}
-use Rattle.choice.specs.Choice.{workWith, total, worksFit, worksOf, totalWork, fits, discardedWorth, discarded}
+use Rattle.choice.specs.Choice.{total, worksFit, worksOf, totalWork, fits, discardedWorth, discarded}
+use Rattle.schedule.specs.Jobs.{workWith}
 use Rattle.choice.proofs.WorkLaws.{works-cons}
 use Rattle.choice.proofs.FitLaws.{discarded-cons}
-use Rattle.placement.specs.Nesting.{Between, positions, Chain}
+use Rattle.placement.specs.Chains.{Between, positions, Chain}
 
 -- the jobs after the first are a chain
 pub chain-tail : (job : Job) (jobs : List Job) → Chain (job ∷ jobs) → Chain jobs

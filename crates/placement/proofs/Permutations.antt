@@ -9,8 +9,9 @@ use Rattle.base.specs.Tests.{and}
 use Rattle.schedule.specs.declared.Job.{Job}
 use Rattle.schedule.specs.Jobs.{counts}
 use Rattle.schedule.specs.Ticks.{Owner, one}
-use Rattle.schedule.specs.Runnings.{All, Any, Holds, got, RunningOf, Whole, Running, discards}
-use Rattle.schedule.proofs.JudgeLaws.{any-map, any-member, all-members}
+use Rattle.schedule.specs.Runnings.{WindowHolds, got, RunningOf, Whole, Running, discards}
+use Rattle.base.specs.Members.{All, Any}
+use Rattle.base.proofs.MemberLaws.{any-map, any-member, all-members}
 use Rattle.placement.specs.Outcomes.{Fewest}
 
 -- Lists with the same members.
@@ -34,7 +35,7 @@ running-among : (May : Job → ℕ → Type 0) (jobs others : List Job) (owner :
     → RunningOf May others owner
 running-among May jobs others owner f g r =
     record {
-      inside = λ tick i e. any-among (Holds tick i) jobs others f (r .inside tick i e);
+      inside = λ tick i e. any-among (WindowHolds tick i) jobs others f (r .inside tick i e);
       gets = all-among (λ job. May job (got owner job)) jobs others g (r .gets);
     }
 

@@ -7,12 +7,13 @@ use lib.ListN.{getD}
 use Rattle.schedule.specs.declared.Job.{Job}
 use Rattle.schedule.specs.Jobs.{workOf}
 use Rattle.schedule.specs.Ticks.{Owner, one}
-use Rattle.schedule.specs.Runnings.{All, got, Whole}
+use Rattle.schedule.specs.Runnings.{got, Whole}
+use Rattle.base.specs.Members.{All}
 use Rattle.schedule.specs.declared.Run.{Run}
 use Rattle.schedule.specs.Runs.{ownerOf, TogetherOf, Together}
 use Rattle.choice.specs.Choice.{worksFit, worksOf, fits}
 use Rattle.choice.proofs.FitLaws.{work-mark}
-use Rattle.placement.specs.Nesting.{Chain}
+use Rattle.placement.specs.Chains.{Chain}
 use Rattle.placement.specs.Placing.{worksPlaced, placed, stretches}
 use Rattle.placement.specs.Outcomes.{GetsWorks, MayGet}
 use Rattle.placement.proofs.Best.{marks-may}

@@ -11,9 +11,9 @@ use borrow.Author.Tests.{eq-eqb, ne-eqb}
 use Rattle.base.specs.Places.{placesFrom, places}
 use Rattle.base.proofs.PlaceLaws.{places-at, places-is, left-start, left-step, left-end}
 use Rattle.schedule.specs.declared.Job.{Job}
-use Rattle.schedule.specs.Runnings.{All, Any, Distinct}
-use Rattle.schedule.proofs.JudgeLaws.{all-map}
-use Rattle.placement.specs.Nesting.{positions}
+use Rattle.base.specs.Members.{All, Any, Distinct}
+use Rattle.base.proofs.MemberLaws.{all-map}
+use Rattle.placement.specs.Chains.{positions}
 use Rattle.placement.specs.ByPosition.{numberAt}
 use Rattle.placement.proofs.PlanLaws.{SameNumbers}
 

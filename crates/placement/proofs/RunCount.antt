@@ -12,7 +12,7 @@ use Rattle.base.proofs.TestLaws.{cases}
 use Rattle.schedule.specs.declared.Job.{Job}
 use Rattle.schedule.specs.Ticks.{one}
 use Rattle.schedule.specs.declared.Run.{Run}
-use Rattle.placement.specs.Filling.{addRun, fill, worksFilled}
+use Rattle.placement.specs.GapFilling.{addRun, fill, worksFilled}
 
 -- how many runs there are, and how many gaps of free ticks above a run; the first gap is measured from `top`
 runsAndGaps : ℕ → List Run → ℕ

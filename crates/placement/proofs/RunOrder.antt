@@ -12,15 +12,16 @@ use borrow.Author.Tests.{leb-true, le-leb, lt-ltb, eqb-true, eqb-false}
 use Rattle.base.proofs.TestLaws.{cases, and-true, and-left, and-right}
 use Rattle.schedule.specs.declared.Job.{Job}
 use Rattle.schedule.specs.Ticks.{Owner}
-use Rattle.schedule.specs.Runnings.{All, RunningOf, Whole, Running}
+use Rattle.schedule.specs.Runnings.{RunningOf, Whole, Running}
+use Rattle.base.specs.Members.{All}
 use Rattle.schedule.specs.declared.Run.{Run}
 use Rattle.schedule.specs.Runs.{ownerOf}
 use Rattle.schedule.specs.Judging.{noneEmpty, followFrom, inOrder}
 use Rattle.schedule.proofs.RunLaws.{in-holds, after-holds, free-before}
 use Rattle.choice.specs.Choice.{worksFit, worksOf, fits}
-use Rattle.placement.specs.Nesting.{Chain}
+use Rattle.placement.specs.Chains.{Chain}
 use Rattle.placement.specs.Placing.{worksPlaced, placed, joinTick, joinTask, latestFirst, stretches}
-use Rattle.placement.specs.Filling.{worksFilled}
+use Rattle.placement.specs.GapFilling.{worksFilled}
 use Rattle.placement.specs.Outcomes.{MayGet}
 use Rattle.placement.proofs.Sufficiency.{works-placed}
 use Rattle.placement.proofs.Best.{marks-may, works-running}

@@ -14,15 +14,16 @@ use Rattle.base.specs.Tests.{and}
 use Rattle.base.proofs.TestLaws.{cases, both-absurd, same-test}
 use Rattle.schedule.specs.declared.Job.{Job}
 use Rattle.schedule.specs.Ticks.{Owner, countBelow}
-use Rattle.schedule.specs.Runnings.{All, Any, Holds}
+use Rattle.schedule.specs.Runnings.{WindowHolds}
+use Rattle.base.specs.Members.{All, Any}
 use Rattle.schedule.specs.declared.Run.{Run}
 use Rattle.schedule.proofs.TickLaws.{count-grows}
 use Rattle.schedule.proofs.RunLaws.{owner-cases}
 use Rattle.choice.specs.Choice.{worksFit}
 use Rattle.choice.proofs.WorkLaws.{works-tail}
-use Rattle.placement.specs.Nesting.{Between, positions, Chain}
+use Rattle.placement.specs.Chains.{Between, positions, Chain}
 use Rattle.placement.specs.Placing.{isFree, freeIn, give, placeJob, worksPlaced, joinTask, latestFirst, stretches}
-use Rattle.placement.specs.Filling.{addRun, fill, worksFilled}
+use Rattle.placement.specs.GapFilling.{addRun, fill, worksFilled}
 use Rattle.placement.proofs.Necessity.{chain-tail}
 use Rattle.placement.proofs.Sufficiency.{Inside, works-placed}
 
@@ -213,7 +214,7 @@ longest-fill i release (run ∷ runs) top w m a =
 pub free-beyond : (owner : Owner) (jobs : List Job) (b tick : ℕ) → Inside jobs owner → All (λ job. job .deadline ≤ b) jobs → b ≤ tick → owner tick ≡ none
 free-beyond owner jobs b tick h a l = owner-cases (owner tick) (λ e. e) (λ k e. absurd (out jobs k (h tick k e) a))
   where
-    out : (jobs : List Job) (k : ℕ) → Any (Holds tick k) jobs → All (λ job. job .deadline ≤ b) jobs → ⊥
+    out : (jobs : List Job) (k : ℕ) → Any (WindowHolds tick k) jobs → All (λ job. job .deadline ≤ b) jobs → ⊥
     out (job ∷ jobs) k (inl q) a = let z = a .0 in omega arith
     out (job ∷ jobs) k (inr q) a = out jobs k q (a .1)
 
@@ -229,7 +230,7 @@ placed-inner : (owner : Owner) (job : Job) (jobs : List Job) → Chain (job ∷ 
     → (tick k : ℕ) → owner tick ≡ some k → (job .release ≤ tick) × (job .position ≢ k)
 placed-inner owner job jobs c h tick k e = go jobs (c .nested .0) (c .distinct .0) (h tick k e)
   where
-    go : (jobs : List Job) → All (Between (job .release) (job .deadline)) jobs → All (λ n. job .position ≢ n) (positions jobs) → Any (Holds tick k) jobs
+    go : (jobs : List Job) → All (Between (job .release) (job .deadline)) jobs → All (λ n. job .position ≢ n) (positions jobs) → Any (WindowHolds tick k) jobs
         → (job .release ≤ tick) × (job .position ≢ k)
     go (other ∷ jobs) n d (inl q) = let x = n .0 in let y = d .0 in omega arith
     go (other ∷ jobs) n d (inr q) = go jobs (n .1) (d .1) q

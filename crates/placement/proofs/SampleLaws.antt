@@ -1,11 +1,11 @@
 -- The samples of the placing, computed.
 use mathlib.Core.Path.{_≡_, refl}
 use mathlib.Core.List.{reverse}
-use Rattle.schedule.specs.Runnings.{All}
+use Rattle.base.specs.Members.{All}
 use Rattle.schedule.specs.Ticks.{countBelow}
 use Rattle.choice.specs.Choice.{total, worksFit, worksOf, keepLists, keptTicks, lexLess, discardedWorth, key, better, best, chosenBy, chosen}
 use Rattle.placement.specs.Placing.{worksPlaced, latestFirst}
-use Rattle.placement.specs.Filling.{fill, worksFilled, filled}
+use Rattle.placement.specs.GapFilling.{fill, worksFilled, filled}
 use Rattle.placement.specs.PlacingSamples.{placingSamples, SampleHolds}
 
 -- Placing tick by tick gives the runs of every sample.

@@ -13,19 +13,20 @@ use Rattle.base.specs.Tests.{and}
 use Rattle.base.proofs.TestLaws.{cases, both-absurd, and-left, and-right}
 use Rattle.schedule.specs.declared.Job.{Job}
 use Rattle.schedule.specs.Ticks.{Owner, isTask, one, countBelow}
-use Rattle.schedule.specs.Runnings.{All, Any, Holds, got}
+use Rattle.schedule.specs.Runnings.{WindowHolds, got}
+use Rattle.base.specs.Members.{All, Any}
 use Rattle.schedule.proofs.TickLaws.{count-grows, count-same, count-none}
 use Rattle.schedule.proofs.RunLaws.{owner-cases}
 use Rattle.choice.specs.Choice.{total, worksFit, worksOf, fits}
 use Rattle.choice.proofs.WorkLaws.{works-head, works-tail}
-use Rattle.placement.specs.Nesting.{Between, positions, Chain}
+use Rattle.placement.specs.Chains.{Between, positions, Chain}
 use Rattle.placement.specs.Placing.{isFree, freeIn, give, reachesBack, placeJob, worksPlaced, placed}
 use Rattle.placement.specs.Outcomes.{GetsWorks}
 use Rattle.placement.proofs.Necessity.{chain-tail}
 
 -- whoever has a tick is a job whose window holds it
 abbrev pub Inside : List Job → Owner → Type 0
-Inside jobs owner = (tick i : ℕ) → owner tick ≡ some i → Any (Holds tick i) jobs
+Inside jobs owner = (tick i : ℕ) → owner tick ≡ some i → Any (WindowHolds tick i) jobs
 
 -- One job more. `owner` is who has each tick before it is placed.
 module _ (owner : Owner) (job : Job) (w : ℕ) where
@@ -111,7 +112,7 @@ gains owner job w zero = refl
 gains owner job w (suc n) = omega (arith, gains owner job w n, give-sum (job .position) (reachesBack owner job w n) (owner n))
 
 -- where only jobs of a list have ticks, a job of no position in it has none
-stranger : (i k : ℕ) (jobs : List Job) (tick : ℕ) → All (λ n. i ≢ n) (positions jobs) → Any (Holds tick k) jobs → k ≢ i
+stranger : (i k : ℕ) (jobs : List Job) (tick : ℕ) → All (λ n. i ≢ n) (positions jobs) → Any (WindowHolds tick k) jobs → k ≢ i
 stranger i k (job ∷ jobs) tick d (inl h) = let n = d .0 in omega arith
 stranger i k (job ∷ jobs) tick d (inr h) = stranger i k jobs tick (d .1) h
 

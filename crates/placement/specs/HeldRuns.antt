@@ -1,13 +1,15 @@
--- The runs found so far, as the code holds them while jobs are filled in: by start, in columns, at the places from a first to an end.
+-- For the proofs of placing's code alone: the runs found so far, as the code holds them while jobs are filled in: by start, in columns, at the places from a first to an end.
 use Prim.Native.Nat.{ℕ, zero, suc, _+_, _-_, _≤_, _<_}
 use mathlib.Core.Path.{_≡_}
 use mathlib.Core.List.{List, [], _∷_, _++_}
 use lib.ListN.{length}
-use Rattle.base.specs.Limits.{maxTasks}
+use Rattle.base.specs.Limits.{maxTasks, maxPlanRuns}
+use Rattle.base.specs.Lent.{writtenFront}
 use Rattle.schedule.specs.declared.Job.{Job}
 use Rattle.schedule.specs.declared.Run.{Run}
+use Rattle.schedule.specs.Runs.{startsOf, endsOf, tasksOf}
 use Rattle.placement.specs.declared.Span.{Span}
-use Rattle.placement.specs.Filling.{fill, maxPlanRuns}
+use Rattle.placement.specs.GapFilling.{fill}
 
 -- the n runs that stand from place `low` on, the latest first
 unfoldable pub downFrom : (ℕ → Run) → ℕ → ℕ → List Run
@@ -62,3 +64,10 @@ pub record FilledAbove (span : Span) (job : Job) (w : ℕ) (old : ℕ → Run) (
 abbrev pub Room : List ℕ → List ℕ → List ℕ → Type 0
 Room starts ends tasks =
     (length starts ≡ maxTasks + maxPlanRuns) × (length ends ≡ maxTasks + maxPlanRuns) × (length tasks ≡ maxTasks + maxPlanRuns)
+
+-- three lists after the columns of runs were written at their fronts; beyond them each keeps its content
+abbrev pub FrontsWritten : List Run → List ℕ → List ℕ → List ℕ → List ℕ → List ℕ → List ℕ → Type 0
+FrontsWritten runs starts ends tasks newStarts newEnds newTasks =
+    (newStarts ≡ writtenFront (startsOf runs) starts)
+    × (newEnds ≡ writtenFront (endsOf runs) ends)
+    × (newTasks ≡ writtenFront (tasksOf runs) tasks)

@@ -1,7 +1,7 @@
-pub mod Nesting
+pub mod Chains
 pub mod Placing
 pub mod Outcomes
-pub mod Filling
+pub mod GapFilling
 pub mod HeldRuns
 pub mod ByPosition
 pub mod PlacingSamples

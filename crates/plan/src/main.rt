@@ -1,11 +1,12 @@
-// The program: plans the table file on standard input, and prints its plan or its refusal on standard output. It holds 501 bytes of its input:
-// what reading says of a longer file follows from them.
+// The program: plans the table file on standard input, and prints its plan or its refusal on standard output. It holds one byte more of its
+// input than a table file has: what reading says of a longer file follows from them.
 use libc::STDIN_FILENO;
 use libc::STDOUT_FILENO;
 use report::MAX_TEXT;
+use table::MAX_FILE;
 
 // One byte more than the longest table file.
-const MOST: usize = 501;
+const MOST: usize = MAX_FILE + 1;
 
 fn main() {
     let mut file = [0u8; MOST];

@@ -1,40 +1,27 @@
 // Planning (an entry point): reading's refusals, then 8 and 9, then the choice of optional parts and the placing of work, and the marks and runs
 // in the lent lists.
 ghost use mathlib.Core.Path.{_≡_};
-ghost use mathlib.Core.Logic.{_↔_};
 ghost use mathlib.Core.Bool.{true, false};
 ghost use mathlib.Core.List.{_++_, reverse};
 ghost use Prim.Native.Nat.{ℕ, _≤_, _<_};
-ghost use lib.ListN.{length, getD, take, drop};
+ghost use lib.ListN.{length, getD, drop};
 ghost use Rattle.base.specs.Limits.{maxTasks};
 ghost use Rattle.base.specs.Places.{places, firstPlaces};
-ghost use Rattle.base.specs.Lent.{writtenFront};
-ghost use Rattle.table.specs.declared.Answer.the-variants.{Accepted};
-ghost use Rattle.table.specs.Reading.{tableIn, readAnswer};
+ghost use Rattle.table.specs.Reading.{tableIn};
 ghost use Rattle.table.specs.Writing.{Legal};
 ghost use Rattle.schedule.specs.Jobs.{noJob, Bounded};
-ghost use Rattle.schedule.specs.Runnings.{Any, Distinct};
-ghost use Rattle.schedule.specs.Runs.{runsOf};
-ghost use Rattle.schedule.specs.Judging.{judged, judgeSays};
+ghost use Rattle.base.specs.Members.{Any, Distinct};
 ghost use Rattle.choice.specs.Choice.{fits, keepNone};
-ghost use Rattle.placement.specs.Nesting.{positions};
+ghost use Rattle.placement.specs.Chains.{positions};
 ghost use Rattle.nesting.specs.NestOrder.{jobsOutermostFirst};
-ghost use Rattle.planner.specs.Planning.{exceedingAfter, tooShort, markAt, planMarks, planRuns, startsOf, endsOf, tasksOf, planDeclined, planOf, planTable, planReply, marksAfter, startsAfter, endsAfter, tasksAfter};
-ghost use Rattle.planner.specs.Demands.{NoRunning, Optimal};
+ghost use Rattle.plans.specs.Planning.{exceedingAfter, tooShort, markAt, planDeclined, planOf};
+ghost use Rattle.plans.specs.Planning.{lent, shortLists, planTable, planReply, planWritten, listsAfter};
+ghost use Rattle.plans.specs.Demands.{EightExactly, JudgeAccepts, PlannedOptimal};
 use base::MAX_TASKS;
+use plans::Planned;
 use schedule::Job;
 use table::Answer;
 use table::Table;
-
-// The reply of planning: the refusal's number and place; or 0, the counts kept and discarded, and the number of runs.
-#[repr(C)]
-pub struct Planned {
-    pub number: u32,
-    pub place: usize,
-    pub kept: u32,
-    pub discarded: u32,
-    pub runs: usize,
-}
 
 // The reply of a refusal.
 fn declined(number: u32, place: usize) -> Planned
@@ -62,7 +49,7 @@ fn first_exceeding(jobs: [Job; MAX_TASKS], count: usize) -> usize
         i -= 1;
         let job = jobs[i];
         sum += job.mandatory;
-        if choice::window_ticks(job) < sum {
+        if schedule::window_ticks(job) < sum {
             return job.position as usize;
         }
     }
@@ -94,7 +81,8 @@ fn put_marks(jobs: [Job; MAX_TASKS], keeps: [bool; MAX_TASKS], count: usize, mar
     requires { ⌜ ((k : ℕ) → k < count → getD jobs k noJob .position < count) ⌝ }
     requires { ⌜ Distinct (positions (firstPlaces noJob jobs count)) ⌝ }
     requires { ⌜ ((k : ℕ) → k < count → Any (λ job. job .position ≡ k) (firstPlaces noJob jobs count)) ⌝ }
-    ensures { λ _. ⌜ now (marks .exit) ≡ places (markAt (firstPlaces noJob jobs count) (firstPlaces false keeps count)) count ++ drop count (now (marks .entry)) ⌝ }
+    ensures { λ _. ⌜ now (marks .exit)
+        ≡ places (markAt (firstPlaces noJob jobs count) (firstPlaces false keeps count)) count ++ drop count (now (marks .entry)) ⌝ }
 {
     let mut i: usize = 0;
     while i < count {
@@ -117,14 +105,16 @@ fn put_plan(
     requires { ⌜ Legal table ⌝ }
     requires { ⌜ firstPlaces noJob jobs (table .count) ≡ jobsOutermostFirst table ⌝ }
     requires { ⌜ fits (jobsOutermostFirst table) (keepNone (jobsOutermostFirst table)) ≡ true ⌝ }
-    requires { ⌜ tooShort (table .count) (length (now marks)) (length (now starts)) (length (now ends)) (length (now tasks)) ≡ false ⌝ }
-    ensures { λ r. ⌜ (r ≡ planOf table) × (now (marks .exit) ≡ writtenFront (planMarks table) (now (marks .entry))) × (now (starts .exit) ≡ writtenFront (startsOf (planRuns table)) (now (starts .entry))) × (now (ends .exit) ≡ writtenFront (endsOf (planRuns table)) (now (ends .entry))) × (now (tasks .exit) ≡ writtenFront (tasksOf (planRuns table)) (now (tasks .entry))) ⌝ }
+    requires { ⌜ shortLists (table .count) (lent (now marks) (now starts) (now ends) (now tasks)) ≡ false ⌝ }
+    ensures { λ r. ⌜ r ≡ planOf table ⌝ }
+    ensures { λ r. ⌜ lent (now (marks .exit)) (now (starts .exit)) (now (ends .exit)) (now (tasks .exit))
+        ≡ planWritten table (lent (now (marks .entry)) (now (starts .entry)) (now (ends .entry)) (now (tasks .entry))) ⌝ }
 {
     let count = table.count as usize;
-    let choice = choice::choose(jobs, count);
+    let choice = choosing::choose(jobs, count);
     let keeps = choice.keeps;
     put_marks(jobs, keeps, count, marks);
-    let runs = placement::place(jobs, count, keeps, starts, ends, tasks);
+    let runs = placing::place(jobs, count, keeps, starts, ends, tasks);
     Planned {
         number: 0,
         place: 0,
@@ -143,10 +133,12 @@ fn plan_table(
     tasks: &mut [u32],
 ) -> Planned
     requires { ⌜ Legal table ⌝ }
-    ensures { λ r. ⌜ (r ≡ planTable table (length (now (marks .entry))) (length (now (starts .entry))) (length (now (ends .entry))) (length (now (tasks .entry)))) × (now (marks .exit) ≡ marksAfter table (r .number) (now (marks .entry))) × (now (starts .exit) ≡ startsAfter table (r .number) (now (starts .entry))) × (now (ends .exit) ≡ endsAfter table (r .number) (now (ends .entry))) × (now (tasks .exit) ≡ tasksAfter table (r .number) (now (tasks .entry))) ⌝ }
+    ensures { λ r. ⌜ r ≡ planTable table (lent (now (marks .entry)) (now (starts .entry)) (now (ends .entry)) (now (tasks .entry))) ⌝ }
+    ensures { λ r. ⌜ lent (now (marks .exit)) (now (starts .exit)) (now (ends .exit)) (now (tasks .exit))
+        ≡ listsAfter table r (lent (now (marks .entry)) (now (starts .entry)) (now (ends .entry)) (now (tasks .entry))) ⌝ }
 {
     let count = table.count as usize;
-    let jobs = nesting::jobs_outermost_first(table);
+    let jobs = ordering::jobs_outermost_first(table);
     let exceeding = first_exceeding(jobs, count);
     if exceeding < count {
         return declined(8, exceeding);
@@ -166,14 +158,12 @@ pub fn plan(
     ends: &mut [u32],
     tasks: &mut [u32],
 ) -> Planned
-    ensures reply { λ r. ⌜ r ≡ planReply (now (file .entry)) (length (now (marks .entry))) (length (now (starts .entry))) (length (now (ends .entry))) (length (now (tasks .entry))) ⌝ }
-    ensures marks_after { λ r. ⌜ now (marks .exit) ≡ marksAfter (tableIn (now (file .entry))) (r .number) (now (marks .entry)) ⌝ }
-    ensures starts_after { λ r. ⌜ now (starts .exit) ≡ startsAfter (tableIn (now (file .entry))) (r .number) (now (starts .entry)) ⌝ }
-    ensures ends_after { λ r. ⌜ now (ends .exit) ≡ endsAfter (tableIn (now (file .entry))) (r .number) (now (ends .entry)) ⌝ }
-    ensures tasks_after { λ r. ⌜ now (tasks .exit) ≡ tasksAfter (tableIn (now (file .entry))) (r .number) (now (tasks .entry)) ⌝ }
-    ensures demand_2_refusal { λ r. ⌜ (readAnswer (now (file .entry)) ≡ Accepted → (r .number ≡ 8) ↔ NoRunning (tableIn (now (file .entry)))) ⌝ }
-    ensures demand_2_judge { λ r. ⌜ (r .number ≡ 0 → judged (now (file .entry)) (take (tableIn (now (file .entry)) .count) (now (marks .exit))) (take (r .runs) (now (starts .exit))) (take (r .runs) (now (ends .exit))) (take (r .runs) (now (tasks .exit))) ≡ judgeSays true (r .kept) (r .discarded)) ⌝ }
-    ensures demand_3 { λ r. ⌜ (r .number ≡ 0 → Optimal (tableIn (now (file .entry))) (take (tableIn (now (file .entry)) .count) (now (marks .exit))) (runsOf (take (r .runs) (now (starts .exit))) (take (r .runs) (now (ends .exit))) (take (r .runs) (now (tasks .exit)))) (r .discarded)) ⌝ }
+    ensures reply { λ r. ⌜ r ≡ planReply (now (file .entry)) (lent (now (marks .entry)) (now (starts .entry)) (now (ends .entry)) (now (tasks .entry))) ⌝ }
+    ensures lists_after { λ r. ⌜ lent (now (marks .exit)) (now (starts .exit)) (now (ends .exit)) (now (tasks .exit))
+        ≡ listsAfter (tableIn (now (file .entry))) r (lent (now (marks .entry)) (now (starts .entry)) (now (ends .entry)) (now (tasks .entry))) ⌝ }
+    ensures demand_2_refusal { λ r. ⌜ EightExactly (now (file .entry)) r ⌝ }
+    ensures demand_2_judge { λ r. ⌜ JudgeAccepts (now (file .entry)) r (lent (now (marks .exit)) (now (starts .exit)) (now (ends .exit)) (now (tasks .exit))) ⌝ }
+    ensures demand_3 { λ r. ⌜ PlannedOptimal (now (file .entry)) r (lent (now (marks .exit)) (now (starts .exit)) (now (ends .exit)) (now (tasks .exit))) ⌝ }
 {
     let read = reading::read(file);
     let answer = read.answer;

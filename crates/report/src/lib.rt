@@ -4,15 +4,18 @@ ghost use mathlib.Core.List.{[], _∷_};
 ghost use Prim.Native.Nat.{_+_, _≤_, _<_};
 ghost use lib.ListN.{length};
 ghost use Rattle.schedule.specs.Runs.{runsOf};
-ghost use Rattle.report.specs.Putting.{Put};
-ghost use Rattle.report.specs.Printing.{decimal, fields, line, dropWord, dropLines, runWord, runLines, planLines, refusalText, printLength, printedOver};
+ghost use Rattle.printed_plan.specs.Putting.{Put};
+ghost use Rattle.printed_plan.specs.Printing.{decimal, fields, line, dropWord, dropLines, runWord, runLines, planLines, refusalText, printLength, printedOver};
+use base::MAX_PLAN_RUNS;
 use base::MAX_TASKS;
 use bits::Cursor;
-use placement::MAX_PLAN_RUNS;
 use table::COUNT_WIDTH;
 
-// No text is longer; definitions say maxText.
-pub const MAX_TEXT: usize = 13_632;
+// No line is longer: a word of at most 7 bytes, 3 numbers of at most 20 digits, each with a space, and a newline; definitions say maxLine.
+const MAX_LINE: usize = 7 + 3 * 21 + 1;
+
+// No text is longer: the PLAN line, a DROP line for each task and a RUN line for each run; definitions say maxText.
+pub const MAX_TEXT: usize = (1 + MAX_TASKS + MAX_PLAN_RUNS) * MAX_LINE;
 
 // The bytes between two fields and at the end of a line, and that of the digit 0.
 const SPACE: u8 = 32;
@@ -143,7 +146,8 @@ fn put_plan(
 ) -> usize
     requires { ⌜ (length (now ends) ≡ length (now starts)) × (length (now tasks) ≡ length (now starts)) ⌝ }
     requires { ⌜ length (planLines count kept discarded (now marks) (runsOf (now starts) (now ends) (now tasks))) ≤ length (now out) ⌝ }
-    ensures { λ r. ⌜ Put (planLines count kept discarded (now (marks .entry)) (runsOf (now (starts .entry)) (now (ends .entry)) (now (tasks .entry)))) 0 (now (out .entry)) r (now (out .exit)) ⌝ }
+    ensures { λ r. ⌜ Put (planLines count kept discarded (now (marks .entry)) (runsOf (now (starts .entry)) (now (ends .entry)) (now (tasks .entry))))
+        0 (now (out .entry)) r (now (out .exit)) ⌝ }
 {
     let numbers = [count as u64, kept as u64, discarded as u64];
     let drops = put_line(out, 0, b"PLAN", &numbers);

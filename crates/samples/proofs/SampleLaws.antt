@@ -1,5 +1,5 @@
 -- P1 to P12: the test of every sample, computed, and the law that turns the test into what the sample says.
-use Prim.Native.Nat.{ℕ, _-_}
+use Prim.Native.Nat.{ℕ}
 use mathlib.Core.Path.{_≡_, refl, sym, ap, ap₂, _∙_}
 use mathlib.Core.Bool.{true, false}
 use mathlib.Core.List.{List, [], _∷_}
@@ -21,19 +21,20 @@ use Rattle.table.specs.declared.Written.{Written}
 use Rattle.schedule.specs.declared.Run.{Run}
 use Rattle.schedule.specs.Jobs.{jobOf, jobAt}
 use Rattle.schedule.specs.Ticks.{countBelow}
-use Rattle.schedule.specs.Runnings.{All}
+use Rattle.base.specs.Members.{All}
 use Rattle.choice.specs.Choice.{total, worksFit, worksOf, keepLists, keptTicks, lexLess, discardedWorth, keptWorth, key, better, best, chosenBy}
 use Rattle.placement.specs.Placing.{worksPlaced, latestFirst}
 use Rattle.placement.specs.ByPosition.{numberAt}
 use Rattle.nesting.specs.NestOrder.{nestBefore, insertOuter, outermostFirst, nestOrder, jobsOutermostFirst}
-use Rattle.planner.specs.declared.Planned.{Planned}
-use Rattle.planner.specs.Planning.{exceedingAfter, firstExceeding, tooShort, keepList, planMarks, planRuns, planOf, planTable, planReply, startsOf, endsOf, tasksOf}
-use Rattle.planner.proofs.ColumnLaws.{columns-runs}
-use Rattle.samples.specs.Samples.{Sample, PlanSample, clock, plan, move, Says, PlanSays, samples, sameNumbers, partsOf, movedParts, sameRuns, planHolds, holds, allHold}
+use Rattle.plans.specs.declared.Planned.{Planned}
+use Rattle.plans.specs.Planning.{exceedingAfter, firstExceeding, tooShort, keepList, planMarks, planRuns, planOf, planTable, planReply}
+use Rattle.schedule.specs.Runs.{startsOf, endsOf, tasksOf}
+use Rattle.schedule.proofs.ColumnLaws.{columns-runs}
+use Rattle.samples.specs.Samples.{Sample, PlanSample, clock, plan, move, Says, PlanSays, samples, sameNumbers, partsOf, movedParts, sameRuns, planMet, sampleMet, allMet}
 
 -- every sample passes
-all-pass : allHold samples ≡ true
-unfolding allHold holds planHolds sameRuns sameNumbers planReply planTable planOf planRuns planMarks numberAt keepList tooShort firstExceeding exceedingAfter jobsOutermostFirst nestOrder outermostFirst insertOuter nestBefore worksPlaced latestFirst chosenBy best better key keptWorth discardedWorth lexLess keptTicks keepLists worksFit worksOf total countBelow jobAt jobOf moveReply firstOutside movedOutside readAnswer headAnswer frontAnswer paddingSet tableIn taskIn taskFrom qIn pIn countIn windowAnswer forwardAnswer nestingAnswer crosses nested contains reversed badPeriod badCount fileLength taskStart tableOf taskAt releaseTick deadlineTick bytesFor field number bitAt placesFrom places someBelow lowest lowestFrom
+all-pass : allMet samples ≡ true
+unfolding allMet sampleMet planMet sameRuns sameNumbers planReply planTable planOf planRuns planMarks numberAt keepList tooShort firstExceeding exceedingAfter jobsOutermostFirst nestOrder outermostFirst insertOuter nestBefore worksPlaced latestFirst chosenBy best better key keptWorth discardedWorth lexLess keptTicks keepLists worksFit worksOf total countBelow jobAt jobOf moveReply firstOutside movedOutside readAnswer headAnswer frontAnswer paddingSet tableIn taskIn taskFrom qIn pIn countIn windowAnswer forwardAnswer nestingAnswer crosses nested contains reversed badPeriod badCount fileLength taskStart tableOf taskAt releaseTick deadlineTick bytesFor field number bitAt placesFrom places someBelow lowest lowestFrom
 all-pass = refl
 
 -- numbers that pass the test are equal
@@ -64,9 +65,9 @@ runs-same a b e =
     sym (columns-runs a) ∙ rw (s, f, t) (columns-runs b)
 
 -- what a plan's test says
-plan-says : (s : PlanSample) → planHolds s ≡ true → PlanSays s
-unfolding planHolds
-plan-says s e = joined (planReply (s .file) _ _ _ _) (planMarks (tableIn (s .file))) (planRuns (tableIn (s .file))) e
+plan-says : (s : PlanSample) → planMet s ≡ true → PlanSays s
+unfolding planMet
+plan-says s e = joined (planReply (s .file) _) (planMarks (tableIn (s .file))) (planRuns (tableIn (s .file))) e
   where
     joined : (reply : Planned) (marks : List ℕ) (runs : List Run)
         → and (sameNumbers (partsOf reply) (partsOf (s .reply))) (pick (eqb (s .reply .number) 0) (and (sameNumbers marks (s .marks)) (sameRuns runs (s .runs))) true) ≡ true
@@ -83,19 +84,19 @@ plan-says s e = joined (planReply (s .file) _ _ _ _) (planMarks (tableIn (s .fil
         )
 
 -- what any sample's test says
-holds-says : (s : Sample) → holds s ≡ true → Says s
-unfolding holds
-holds-says (clock s) e =
+met-says : (s : Sample) → sampleMet s ≡ true → Says s
+unfolding sampleMet
+met-says (clock s) e =
     let release = eqb (releaseTick (s .p) (s .q) (s .frame)) (s .release) in
     let deadline = eqb (deadlineTick (s .p) (s .q) (s .frame)) (s .deadline) in
     (eqb-true _ _ (and-left release deadline e), eqb-true _ _ (and-right release deadline e))
-holds-says (plan s) e = plan-says s e
-holds-says (move s) e = parts-moved _ _ (numbers-same _ _ e)
+met-says (plan s) e = plan-says s e
+met-says (move s) e = parts-moved _ _ (numbers-same _ _ e)
 
-all-say : (list : List Sample) → allHold list ≡ true → All Says list
-unfolding allHold
+all-say : (list : List Sample) → allMet list ≡ true → All Says list
+unfolding allMet
 all-say [] e = tt
-all-say (s ∷ list) e = (holds-says s (and-left (holds s) (allHold list) e), all-say list (and-right (holds s) (allHold list) e))
+all-say (s ∷ list) e = (met-says s (and-left (sampleMet s) (allMet list) e), all-say list (and-right (sampleMet s) (allMet list) e))
 
 -- P1 to P12: what document 01 says of the sample flights holds of the definitions.
 pub flight-samples : All Says samples

@@ -1,5 +1,5 @@
 -- The sample flights P1 to P12 of document 01, as one table: frames and their ticks, table files and their plans, a table file and its moving.
-use Prim.Native.Nat.{ℕ, _-_, _*_}
+use Prim.Native.Nat.{ℕ}
 use mathlib.Core.Path.{_≡_}
 use mathlib.Core.Bool.{Bool, true, false}
 use mathlib.Core.List.{List, [], _∷_, _++_, map}
@@ -14,8 +14,9 @@ use Rattle.table.specs.Answers.{declined}
 use Rattle.table.specs.Reading.{tableIn}
 use Rattle.table.specs.Moving.{moveReply}
 use Rattle.schedule.specs.declared.Run.{Run}
-use Rattle.planner.specs.declared.Planned.{Planned}
-use Rattle.planner.specs.Planning.{planDeclined, planReply, planMarks, planRuns, startsOf, endsOf, tasksOf}
+use Rattle.plans.specs.declared.Planned.{Planned}
+use Rattle.plans.specs.Planning.{planDeclined, listsFor, planReply, planMarks, planRuns}
+use Rattle.schedule.specs.Runs.{startsOf, endsOf, tasksOf}
 
 -- a table file, the reply of planning into lists that are just long enough, and of a plan its marks and runs
 pub record PlanSample : Type 0 where
@@ -77,7 +78,7 @@ samples =
 -- What a sample says of the definitions.
 abbrev pub PlanSays : PlanSample → Type 0
 PlanSays s =
-    (planReply (s .file) (tableIn (s .file) .count) (2 * tableIn (s .file) .count - 1) (2 * tableIn (s .file) .count - 1) (2 * tableIn (s .file) .count - 1) ≡ s .reply)
+    (planReply (s .file) (listsFor (tableIn (s .file) .count)) ≡ s .reply)
     × (s .reply .number ≡ 0 → (planMarks (tableIn (s .file)) ≡ s .marks) × (planRuns (tableIn (s .file)) ≡ s .runs))
 
 abbrev pub Says : Sample → Type 0
@@ -104,22 +105,22 @@ movedParts r = r .number ∷ r .place ∷ r .bytes ∷ []
 unfoldable pub sameRuns : List Run → List Run → Bool
 sameRuns a b = and (sameNumbers (startsOf a) (startsOf b)) (and (sameNumbers (endsOf a) (endsOf b)) (sameNumbers (tasksOf a) (tasksOf b)))
 
-unfoldable pub planHolds : PlanSample → Bool
-planHolds s =
+unfoldable pub planMet : PlanSample → Bool
+planMet s =
     and
     (sameNumbers
-    (partsOf (planReply (s .file) (tableIn (s .file) .count) (2 * tableIn (s .file) .count - 1) (2 * tableIn (s .file) .count - 1) (2 * tableIn (s .file) .count - 1)))
+    (partsOf (planReply (s .file) (listsFor (tableIn (s .file) .count))))
     (partsOf (s .reply)))
     (pick (eqb (s .reply .number) 0)
     (and (sameNumbers (planMarks (tableIn (s .file))) (s .marks)) (sameRuns (planRuns (tableIn (s .file))) (s .runs)))
     true)
 
-unfoldable pub holds : Sample → Bool
-holds (clock s) = and (eqb (releaseTick (s .p) (s .q) (s .frame)) (s .release)) (eqb (deadlineTick (s .p) (s .q) (s .frame)) (s .deadline))
-holds (plan s) = planHolds s
-holds (move s) = sameNumbers (movedParts (moveReply (s .file) (s .shift) (length (s .file)))) (movedParts (s .reply))
+unfoldable pub sampleMet : Sample → Bool
+sampleMet (clock s) = and (eqb (releaseTick (s .p) (s .q) (s .frame)) (s .release)) (eqb (deadlineTick (s .p) (s .q) (s .frame)) (s .deadline))
+sampleMet (plan s) = planMet s
+sampleMet (move s) = sameNumbers (movedParts (moveReply (s .file) (s .shift) (length (s .file)))) (movedParts (s .reply))
 
 -- every sample of a list passes
-unfoldable pub allHold : List Sample → Bool
-allHold [] = true
-allHold (s ∷ rest) = and (holds s) (allHold rest)
+unfoldable pub allMet : List Sample → Bool
+allMet [] = true
+allMet (s ∷ rest) = and (sampleMet s) (allMet rest)

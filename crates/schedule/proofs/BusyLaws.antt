@@ -6,9 +6,9 @@ use native.Mathlib.Omega.{arith}
 use native.Mathlib.Decide.{decLe}
 use lib.ListN.{length}
 use Rattle.schedule.specs.Ticks.{countIn}
-use Rattle.schedule.specs.Runnings.{All}
+use Rattle.base.specs.Members.{All}
 use Rattle.schedule.specs.declared.Run.{Run}
-use Rattle.schedule.specs.Runs.{holds}
+use Rattle.schedule.specs.Runs.{runHolds}
 use Rattle.schedule.specs.BusyCount.{shared, busySum}
 use Rattle.schedule.proofs.RunLaws.{run-count}
 
@@ -31,7 +31,7 @@ no-more : (s m n : ℕ) → m ≤ n → 0 ≡ (m - s) - (n - s)
 no-more s m n h = omega arith
 
 -- what is added for a run is the number of ticks of the interval that it holds
-pub shared-is : (a b : ℕ) (run : Run) → shared a b run ≡ countIn (holds run) a b
+pub shared-is : (a b : ℕ) (run : Run) → shared a b run ≡ countIn (runHolds run) a b
 unfolding shared
 shared-is a b run =
     rw (run-count run b, run-count run a)

@@ -6,7 +6,6 @@ use mathlib.Core.List.{List, [], _∷_}
 use mathlib.Core.Bool.{Bool, true, false, not}
 use mathlib.Core.Option.{some}
 use native.Mathlib.Omega.{arith}
-use native.Mathlib.Decide.{decLe}
 use lib.Dec.{leb, ltb, eqb}
 use lib.ListN.{length, getD}
 use borrow.Author.Tests.{leb-true, ltb-true, eqb-true, eqb-false, le-leb, lt-ltb, eq-eqb, ne-eqb, not-true, not-false}
@@ -23,92 +22,13 @@ use Rattle.table.proofs.AnswerLaws.{refused-number}
 use Rattle.schedule.specs.declared.Job.{Job}
 use Rattle.schedule.specs.Jobs.{jobOf, jobAt, jobsOf, workOf, counts}
 use Rattle.schedule.specs.Ticks.{Owner, one, countBelow}
-use Rattle.schedule.specs.Runnings.{All, Any, Holds, got, Gets, discards}
+use Rattle.schedule.specs.Runnings.{WindowHolds, got, Gets, discards}
+use Rattle.base.specs.Members.{All, Any}
+use Rattle.base.proofs.MemberLaws.{all-map, any-map, all-members, any-member, all-places, any-places}
 use Rattle.schedule.specs.declared.Run.{Run}
-use Rattle.schedule.specs.Runs.{holds, ownerOf, Together, badColumns, runsOf}
-use Rattle.schedule.specs.Judging.{noneEmpty, inOrder, knownTasks, inWindows, totalOf, exactTotals, verdict, discardedCount, firstBadMark, judgeTable, judged, Fair}
-use Rattle.schedule.proofs.RunLaws.{in-holds, holds-in, first-nonempty, rest-nonempty, owner-is-run, owner-has-run, run-ticks}
-
--- Members of lists.
-
--- where P gives Q, it does so for all members
-pub all-map : {A : Type 0} (P Q : A → Type 0) (xs : List A) → ((x : A) → P x → Q x) → All P xs → All Q xs
-all-map P Q [] f h = tt
-all-map P Q (x ∷ xs) f h = (f x (h .0), all-map P Q xs f (h .1))
-
--- and for some member
-pub any-map : {A : Type 0} (P Q : A → Type 0) (xs : List A) → ((x : A) → P x → Q x) → Any P xs → Any Q xs
-any-map P Q (x ∷ xs) f (inl h) = inl (f x h)
-any-map P Q (x ∷ xs) f (inr h) = inr (any-map P Q xs f h)
-
--- all members are P exactly where whatever is a member is P
-pub all-members : {A : Type 0} (P : A → Type 0) (xs : List A) → All P xs ↔ ((x : A) → Any (λ y. y ≡ x) xs → P x)
-all-members P xs = (to xs, fro xs)
-  where
-    to : (xs : List _) → All P xs → (x : _) → Any (λ y. y ≡ x) xs → P x
-    to (y ∷ ys) h x (inl e) = rw e at (h .0)
-    to (y ∷ ys) h x (inr m) = to ys (h .1) x m
-
-    fro : (xs : List _) → ((x : _) → Any (λ y. y ≡ x) xs → P x) → All P xs
-    fro [] h = tt
-    fro (x ∷ xs) h = (h x (inl refl), fro xs (λ y m. h y (inr m)))
-
--- where some member is P, there is one
-pub any-member : {A : Type 0} (P : A → Type 0) (xs : List A) → Any P xs → (x : A) × Any (λ y. y ≡ x) xs × P x
-any-member P (x ∷ xs) (inl h) = (x, inl refl, h)
-any-member P (x ∷ xs) (inr h) = let m = any-member P xs h in (m .0, inr (m .1), m .2)
-
--- Members of a list that is given place by place.
-
-all-from : {A : Type 0} (P : A → Type 0) (at : ℕ → A) (i n : ℕ) → All P (placesFrom at i n) ↔ ((k : ℕ) → i ≤ k → k < i + n → P (at k))
-unfolding placesFrom
-all-from P at i n = (to i n, fro i n)
-  where
-    to : (i n : ℕ) → All P (placesFrom at i n) → (k : ℕ) → i ≤ k → k < i + n → P (at k)
-    to i zero h k l m = absurd (omega arith)
-    to i (suc n) h k l m =
-        elim (decLe (suc i) k) [
-          | yes q ↦ to (suc i) n (h .1) k q (omega arith)
-          | no q ↦ let e : i ≡ k = omega arith in rw (← e) (h .0)
-        ]
-
-    fro : (i n : ℕ) → ((k : ℕ) → i ≤ k → k < i + n → P (at k)) → All P (placesFrom at i n)
-    fro i zero h = tt
-    fro i (suc n) h = (h i (omega arith) (omega arith), fro (suc i) n (λ k l m. h k (omega arith) (omega arith)))
-
--- all members are P exactly where what stands at each place is
-pub all-places : {A : Type 0} (P : A → Type 0) (at : ℕ → A) (n : ℕ) → All P (places at n) ↔ ((k : ℕ) → k < n → P (at k))
-unfolding places
-all-places P at n = (
-  λ h k l. all-from P at 0 n .0 h k (omega arith) (omega arith),
-  λ h. all-from P at 0 n .1 (λ k l m. h k (omega arith)),
-)
-
-any-from : {A : Type 0} (P : A → Type 0) (at : ℕ → A) (i n : ℕ) → Any P (placesFrom at i n) → (k : ℕ) × (i ≤ k) × (k < i + n) × P (at k)
-unfolding placesFrom
-any-from P at i (suc n) (inl h) = (i, omega arith, omega arith, h)
-any-from P at i (suc n) (inr h) =
-    let m = any-from P at (suc i) n h in
-    let l = m .1 in
-    let r = m .2 in
-    (m .0, omega arith, omega arith, m .3)
-
-from-any : {A : Type 0} (P : A → Type 0) (at : ℕ → A) (i n k : ℕ) → i ≤ k → k < i + n → P (at k) → Any P (placesFrom at i n)
-unfolding placesFrom
-from-any P at i zero k l m h = absurd (omega arith)
-from-any P at i (suc n) k l m h =
-    elim (decLe (suc i) k) [
-      | yes q ↦ inr (from-any P at (suc i) n k q (omega arith) h)
-      | no q ↦ let e : i ≡ k = omega arith in inl (rw e h)
-    ]
-
--- some member is P exactly where what stands at some place is
-pub any-places : {A : Type 0} (P : A → Type 0) (at : ℕ → A) (n : ℕ) → Any P (places at n) ↔ ((k : ℕ) × (k < n) × P (at k))
-unfolding places
-any-places P at n = (
-  λ h. let m = any-from P at 0 n h in let l = m .2 in (m .0, omega arith, m .3),
-  λ m. from-any P at 0 n (m .0) (omega arith) (omega (arith, m .1)) (m .2),
-)
+use Rattle.schedule.specs.Runs.{runHolds, ownerOf, Together, badColumns, runsOf}
+use Rattle.schedule.specs.Judging.{noneEmpty, inOrder, knownTasks, inWindows, totalOf, exactTotals, verdict, discardedCount, firstBadMark, judgeTable, judged, Acceptable}
+use Rattle.schedule.proofs.RunLaws.{in-holds, run-holds, first-nonempty, rest-nonempty, owner-is-run, owner-has-run, run-ticks}
 
 -- The conditions of the verdict, as facts of each run and of each task.
 
@@ -195,14 +115,14 @@ job-position t k = refl
 
 -- a job of position i holds a tick exactly where i is in the table and the window at i has the tick
 pub job-holds : (t : Table) (tick i : ℕ)
-    → Any (Holds tick i) (jobsOf t) ↔ ((i < t .count) × (jobAt t i .release ≤ tick) × (tick < jobAt t i .deadline))
+    → Any (WindowHolds tick i) (jobsOf t) ↔ ((i < t .count) × (jobAt t i .release ≤ tick) × (tick < jobAt t i .deadline))
 unfolding jobsOf
 job-holds t tick i = (
   λ h.
-      let m = any-places (Holds tick i) (jobAt t) (t .count) .0 h in
+      let m = any-places (WindowHolds tick i) (jobAt t) (t .count) .0 h in
       let e : m .0 ≡ i = sym (job-position t (m .0)) ∙ m .2 .0 in
       (rw e at (m .1), rw e at (m .2 .1), rw e at (m .2 .2)),
-  λ h. any-places (Holds tick i) (jobAt t) (t .count) .1 (i, h .0, (job-position t i, h .1, h .2)),
+  λ h. any-places (WindowHolds tick i) (jobAt t) (t .count) .1 (i, h .0, (job-position t i, h .1, h .2)),
 )
 
 -- in order and in the windows, a task's job gets what the task's runs total
@@ -226,8 +146,8 @@ work-gets owner job mark e =
 owned-in : (t : Table) (runs : List Run) → All (λ run. run .task < t .count) runs → All (InWindow (jobAt t)) runs
     → (tick i : ℕ) → ownerOf runs tick ≡ some i → (i < t .count) × (jobAt t i .release ≤ tick) × (tick < jobAt t i .deadline)
 owned-in t runs known win tick i e =
-    let m = any-member (λ run. (holds run tick ≡ true) × (run .task ≡ i)) runs (owner-has-run runs tick i e) in
-    let h = holds-in (m .0) tick (m .2 .0) in
+    let m = any-member (λ run. (runHolds run tick ≡ true) × (run .task ≡ i)) runs (owner-has-run runs tick i e) in
+    let h = run-holds (m .0) tick (m .2 .0) in
     let k : i < t .count = rw (m .2 .1) at (all-members (λ run. run .task < t .count) runs .0 known (m .0) (m .1)) in
     let w : (jobAt t i .release ≤ m .0 .start) × (m .0 .end ≤ jobAt t i .deadline) = rw (m .2 .1) at (all-members (InWindow (jobAt t)) runs .0 win (m .0) (m .1)) in
     (k, omega arith, omega arith)
@@ -261,7 +181,7 @@ run-tick : (t : Table) (marks : List ℕ) (runs : List Run) → noneEmpty runs �
     → (run .task < t .count) × (jobAt t (run .task) .release ≤ tick) × (tick < jobAt t (run .task) .deadline)
 unfolding inOrder
 run-tick t marks runs ne io g run m tick a b =
-    let held = any-map (λ r. r ≡ run) (λ r. (holds r tick ≡ true) × (r .task ≡ run .task)) runs (λ r e. rw e (in-holds run tick a b, refl)) m in
+    let held = any-map (λ r. r ≡ run) (λ r. (runHolds r tick ≡ true) × (r .task ≡ run .task)) runs (λ r e. rw e (in-holds run tick a b, refl)) m in
     job-holds t tick (run .task) .0 (g .running .inside tick (run .task) (owner-is-run 0 runs ne io tick (run .task) held))
 
 -- so the run lies in its window
@@ -365,7 +285,7 @@ refused-nonzero : (a : Answer) → isAccepted a ≡ false → numberOf a ≡ 0 �
 refused-nonzero a e z = eqb-false (numberOf a) 0 (refused-number a e) z
 
 pub judge-sound : (file marks starts ends tasks : List ℕ) → judged file marks starts ends tasks .number ≡ 0
-    → (judged file marks starts ends tasks .yes ≡ true) ↔ Fair file marks (runsOf starts ends tasks)
+    → (judged file marks starts ends tasks .yes ≡ true) ↔ Acceptable file marks (runsOf starts ends tasks)
 unfolding judged
 judge-sound file marks starts ends tasks =
     cases (isAccepted (readAnswer file))

@@ -3,3 +3,6 @@ pub mod TickLaws
 pub mod RunLaws
 pub mod JudgeLaws
 pub mod BusyLaws
+pub mod PassLaws
+pub mod VerdictLaws
+pub mod ColumnLaws

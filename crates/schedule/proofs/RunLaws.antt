@@ -13,34 +13,34 @@ use Rattle.base.specs.Limits.{maxRuns}
 use Rattle.base.specs.Tests.{pick, and, or}
 use Rattle.base.proofs.TestLaws.{cases, and-left, and-right, or-left, or-right}
 use Rattle.schedule.specs.Ticks.{isTask, one, countBelow, ticksOf}
-use Rattle.schedule.specs.Runnings.{All, Any}
+use Rattle.base.specs.Members.{All, Any}
 use Rattle.schedule.specs.declared.Run.{Run}
-use Rattle.schedule.specs.Runs.{holds, ownerOf, badColumns}
+use Rattle.schedule.specs.Runs.{runHolds, ownerOf, badColumns}
 use Rattle.schedule.specs.Judging.{noneEmpty, followFrom, totalOf}
 use Rattle.schedule.proofs.TickLaws.{count-none, count-split}
 
 -- a tick that a run holds is in it
-pub holds-in : (run : Run) (tick : ℕ) → holds run tick ≡ true → (run .start ≤ tick) × (tick < run .end)
-holds-in run tick e = (
+pub run-holds : (run : Run) (tick : ℕ) → runHolds run tick ≡ true → (run .start ≤ tick) × (tick < run .end)
+run-holds run tick e = (
   leb-true (run .start) tick (and-left (leb (run .start) tick) (ltb tick (run .end)) e),
   ltb-true tick (run .end) (and-right (leb (run .start) tick) (ltb tick (run .end)) e),
 )
 
 -- a run holds the ticks in it
-pub in-holds : (run : Run) (tick : ℕ) → run .start ≤ tick → tick < run .end → holds run tick ≡ true
+pub in-holds : (run : Run) (tick : ℕ) → run .start ≤ tick → tick < run .end → runHolds run tick ≡ true
 in-holds run tick h l = rw (le-leb (run .start) tick h, lt-ltb tick (run .end) l)
 
 -- a run holds no tick before its start
-pub before-holds : (run : Run) (tick : ℕ) → tick < run .start → holds run tick ≡ false
+pub before-holds : (run : Run) (tick : ℕ) → tick < run .start → runHolds run tick ≡ false
 before-holds run tick h = rw (lt-leb (run .start) tick h)
 
 -- a run holds no tick from its end on
-pub after-holds : (run : Run) (tick : ℕ) → run .end ≤ tick → holds run tick ≡ false
+pub after-holds : (run : Run) (tick : ℕ) → run .end ≤ tick → runHolds run tick ≡ false
 after-holds run tick h =
     cases (leb (run .start) tick) (λ e. rw (e, le-ltb tick (run .end) h)) (λ e. rw e)
 
 -- how many of the ticks below n a run holds
-pub run-count : (run : Run) (n : ℕ) → countBelow (holds run) n ≡ min (run .end) n - run .start
+pub run-count : (run : Run) (n : ℕ) → countBelow (runHolds run) n ≡ min (run .end) n - run .start
 unfolding countBelow
 run-count run zero = omega arith
 run-count run (suc n) =
@@ -80,8 +80,8 @@ owned-from from [] ne fo tick i e = let z : _≡_ {A = ℕ} 0 1 = cc in omega ar
 owned-from from (run ∷ runs) ne fo tick i e =
     let s = first-nonempty run runs ne in
     let l = first-follows from run runs fo in
-    cases (holds run tick)
-    (λ h. omega (arith, holds-in run tick h))
+    cases (runHolds run tick)
+    (λ h. omega (arith, run-holds run tick h))
     (λ h.
     let q : ownerOf runs tick ≡ some i = rw h at e in
     omega (arith, owned-from (run .end) runs (rest-nonempty run runs ne) (rest-follow from run runs fo) tick i q))
@@ -99,7 +99,7 @@ free-before from runs ne fo tick l =
 
 -- in order, a tick that a run holds is owned by the run's task
 pub owner-is-run : (from : ℕ) (runs : List Run) → noneEmpty runs ≡ true → followFrom from runs ≡ true
-    → (tick i : ℕ) → Any (λ run. (holds run tick ≡ true) × (run .task ≡ i)) runs → ownerOf runs tick ≡ some i
+    → (tick i : ℕ) → Any (λ run. (runHolds run tick ≡ true) × (run .task ≡ i)) runs → ownerOf runs tick ≡ some i
 unfolding ownerOf
 owner-is-run from (run ∷ runs) ne fo tick i (inl h) = rw (h .0, h .1)
 owner-is-run from (run ∷ runs) ne fo tick i (inr h) =
@@ -109,29 +109,29 @@ owner-is-run from (run ∷ runs) ne fo tick i (inr h) =
     rw (after-holds run tick (owned-from (run .end) runs ne₂ fo₂ tick i e)) e
 
 -- a tick that is owned is held by a run of its owner
-pub owner-has-run : (runs : List Run) (tick i : ℕ) → ownerOf runs tick ≡ some i → Any (λ run. (holds run tick ≡ true) × (run .task ≡ i)) runs
+pub owner-has-run : (runs : List Run) (tick i : ℕ) → ownerOf runs tick ≡ some i → Any (λ run. (runHolds run tick ≡ true) × (run .task ≡ i)) runs
 unfolding ownerOf
 owner-has-run [] tick i e = let z : _≡_ {A = ℕ} 0 1 = cc in omega arith
 owner-has-run (run ∷ runs) tick i e =
-    cases (holds run tick)
+    cases (runHolds run tick)
     (λ h. let q : some (run .task) ≡ some i = rw h at e in inl (h, (cc)))
     (λ h. inr (owner-has-run runs tick i (rw h at e)))
 
 -- in order, the ticks of task i are those of the first run, where it is of task i, and those of the rest
 own-split : (from : ℕ) (run : Run) (runs : List Run) → noneEmpty (run ∷ runs) ≡ true → followFrom from (run ∷ runs) ≡ true → (i tick : ℕ)
-    → one (isTask i (ownerOf (run ∷ runs) tick)) ≡ one (and (eqb (run .task) i) (holds run tick)) + one (isTask i (ownerOf runs tick))
+    → one (isTask i (ownerOf (run ∷ runs) tick)) ≡ one (and (eqb (run .task) i) (runHolds run tick)) + one (isTask i (ownerOf runs tick))
 unfolding ownerOf
 own-split from run runs ne fo i tick =
-    cases (holds run tick)
+    cases (runHolds run tick)
     (λ h.
-    let l = holds-in run tick h in
+    let l = run-holds run tick h in
     let f = free-before (run .end) runs (rest-nonempty run runs ne) (rest-follow from run runs fo) tick (l .1) in
     cases (eqb (run .task) i) (λ e. rw (h, f, e)) (λ e. rw (h, f, e)))
     (λ h. cases (eqb (run .task) i) (λ e. rw (h, e) (omega arith)) (λ e. rw (h, e) (omega arith)))
 
 -- how many ticks below n a run holds as one of task i
 part-count : (run : Run) (i n : ℕ)
-    → countBelow (λ tick. and (eqb (run .task) i) (holds run tick)) n ≡ pick (eqb (run .task) i) (min (run .end) n - run .start) 0
+    → countBelow (λ tick. and (eqb (run .task) i) (runHolds run tick)) n ≡ pick (eqb (run .task) i) (min (run .end) n - run .start) 0
 part-count run i n =
     cases (eqb (run .task) i)
     (λ e. rw e (run-count run n))
@@ -143,7 +143,7 @@ own-count : (from : ℕ) (run : Run) (runs : List Run) → noneEmpty (run ∷ ru
     ≡ pick (eqb (run .task) i) (min (run .end) n - run .start) 0 + countBelow (λ tick. isTask i (ownerOf runs tick)) n
 own-count from run runs ne fo i n =
     rw (← part-count run i n)
-    (count-split (λ tick. isTask i (ownerOf (run ∷ runs) tick)) (λ tick. and (eqb (run .task) i) (holds run tick)) (λ tick. isTask i (ownerOf runs tick))
+    (count-split (λ tick. isTask i (ownerOf (run ∷ runs) tick)) (λ tick. and (eqb (run .task) i) (runHolds run tick)) (λ tick. isTask i (ownerOf runs tick))
     (own-split from run runs ne fo i) n)
 
 -- no run, no ticks

@@ -12,7 +12,7 @@ use lib.Dec.{eqb}
 use borrow.Author.Tests.{eqb-true, ne-eqb}
 use Rattle.base.proofs.TestLaws.{cases}
 use Rattle.schedule.specs.Ticks.{Owner, isTask, one, countBelow, ticksOf}
-use Rattle.schedule.specs.Runnings.{All, Distinct}
+use Rattle.base.specs.Members.{All, Distinct}
 
 -- the ticks that some tasks have between a and b, summed
 unfoldable pub shares : Owner → List ℕ → ℕ → ℕ → ℕ

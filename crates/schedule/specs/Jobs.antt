@@ -1,5 +1,5 @@
 -- Jobs: the tasks of an accepted table in ticks. This is the only definition above the frame clock that knows frames or periods.
-use Prim.Native.Nat.{ℕ, _+_, _≤_}
+use Prim.Native.Nat.{ℕ, _+_, _-_, _≤_}
 use mathlib.Core.List.{List}
 use lib.Dec.{ltb, eqb}
 use mathlib.Core.Bool.{Bool}
@@ -35,9 +35,17 @@ jobAt t k = jobOf (t .p) (t .q) k (taskAt t k)
 unfoldable pub jobsOf : Table → List Job
 jobsOf t = places (jobAt t) (t .count)
 
--- the work of a job under a mark: its mandatory ticks, plus its optional ticks where kept
+-- the ticks of a window, from its release, included, to its deadline, excluded; none where the deadline is not after the release
+abbrev pub windowTicks : Job → ℕ
+windowTicks job = job .deadline - job .release
+
+-- 'A task's work is its mandatory ticks, plus its optional ticks where kept.'
+abbrev pub workWith : Job → Bool → ℕ
+workWith job keep = job .mandatory + pick keep (job .optional) 0
+
+-- the work of a job under a mark: 1 is kept
 abbrev pub workOf : Job → ℕ → ℕ
-workOf job mark = job .mandatory + pick (eqb mark 1) (job .optional) 0
+workOf job mark = workWith job (eqb mark 1)
 
 -- an optional part counts where it has ticks
 abbrev pub counts : Job → Bool

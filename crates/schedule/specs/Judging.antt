@@ -1,6 +1,7 @@
 -- Judging a keep list and a run list, whoever made them.
 use Prim.Native.Nat.{ℕ, _+_, _-_}
 use mathlib.Core.Path.{_≡_}
+use mathlib.Core.Logic.{_↔_}
 use mathlib.Core.List.{List, [], _∷_}
 use mathlib.Core.Bool.{Bool, true, false, not}
 use lib.Dec.{leb, ltb, eqb}
@@ -75,7 +76,8 @@ abbrev pub judgeDeclined : ℕ → ℕ → Judged
 judgeDeclined number place = record { number = number; place = place; yes = false; kept = 0; discarded = 0 }
 
 abbrev pub judgeSays : Bool → ℕ → ℕ → Judged
-judgeSays fair kept discarded = record { number = 0; place = 0; yes = fair; kept = pick fair kept 0; discarded = pick fair discarded 0 }
+judgeSays accepts kept discarded =
+    record { number = 0; place = 0; yes = accepts; kept = pick accepts kept 0; discarded = pick accepts discarded 0 }
 
 -- what the judge replies on the table of an accepted file: 11, the length first, then 13, then the verdict
 unfoldable pub judgeTable : Table → List ℕ → List ℕ → List ℕ → List ℕ → Judged
@@ -91,8 +93,13 @@ judged file marks starts ends tasks =
     pick (isAccepted (readAnswer file)) (judgeTable (tableIn file) marks starts ends tasks)
     (judgeDeclined (numberOf (readAnswer file)) (placeOf (readAnswer file)))
 
--- what demand 2 asks of a yes: the runs follow one another in time, none is empty, and list and runs together are a running of the table
-pub record Fair (file marks : List ℕ) (runs : List Run) : Type 0 where
+-- what demand 2 asks of a keep list and runs that the judge accepts: the runs follow one another in time, none is empty, and list and runs together
+-- are a running of the table
+pub record Acceptable (file marks : List ℕ) (runs : List Run) : Type 0 where
   pub follow : inOrder runs ≡ true
   pub nonempty : noneEmpty runs ≡ true
   pub together : Together (jobsOf (tableIn file)) marks runs
+
+-- Demand 2: where the judge refuses nothing, it says yes exactly when list and runs are so
+abbrev pub Sound : List ℕ → List ℕ → List Run → Judged → Type 0
+Sound file marks runs reply = reply .number ≡ 0 → (reply .yes ≡ true) ↔ Acceptable file marks runs

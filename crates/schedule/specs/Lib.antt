@@ -4,3 +4,4 @@ pub mod Runnings
 pub mod Runs
 pub mod Judging
 pub mod BusyCount
+pub mod Passing

@@ -2,32 +2,19 @@
 -- gets ticks of its window only, and as many as it may: its mandatory ticks, or its mandatory and optional ticks together.
 use Prim.Native.Nat.{ℕ, _+_, _≤_, _<_}
 use mathlib.Core.Path.{_≡_}
-use mathlib.Core.Logic.{_⊎_, _≢_}
+use mathlib.Core.Logic.{_⊎_}
 use mathlib.Core.List.{List, [], _∷_}
 use mathlib.Core.Option.{some}
 use lib.Dec.{eqb}
 use Rattle.base.specs.Tests.{and}
+use Rattle.base.specs.Members.{All, Any}
 use Rattle.schedule.specs.declared.Job.{Job}
 use Rattle.schedule.specs.Jobs.{counts}
 use Rattle.schedule.specs.Ticks.{Owner, ticksOf, one}
 
--- every member of a list is P, and some member is
-abbrev pub All : {A : Type 0} → (A → Type 0) → List A → Type 0
-All P [] = Unit {0}
-All P (x ∷ xs) = P x × All P xs
-
-abbrev pub Any : {A : Type 0} → (A → Type 0) → List A → Type 0
-Any P [] = ⊥
-Any P (x ∷ xs) = P x ⊎ Any P xs
-
--- no number stands twice
-abbrev pub Distinct : List ℕ → Type 0
-Distinct [] = Unit {0}
-Distinct (i ∷ is) = All (λ k. i ≢ k) is × Distinct is
-
 -- the job has position i, and its window holds the tick
-abbrev pub Holds : ℕ → ℕ → Job → Type 0
-Holds tick i job = (job .position ≡ i) × (job .release ≤ tick) × (tick < job .deadline)
+abbrev pub WindowHolds : ℕ → ℕ → Job → Type 0
+WindowHolds tick i job = (job .position ≡ i) × (job .release ≤ tick) × (tick < job .deadline)
 
 -- the ticks that a job gets
 abbrev pub got : Owner → Job → ℕ
@@ -36,7 +23,7 @@ got owner job = ticksOf owner (job .position) (job .release) (job .deadline)
 -- a running of jobs, where `May job n` says that a job may get n ticks: whoever has a tick is a job whose window holds it, and each job gets as
 -- many as it may
 pub record RunningOf (May : Job → ℕ → Type 0) (jobs : List Job) (owner : Owner) : Type 0 where
-  pub inside : (tick i : ℕ) → owner tick ≡ some i → Any (Holds tick i) jobs
+  pub inside : (tick i : ℕ) → owner tick ≡ some i → Any (WindowHolds tick i) jobs
   pub gets : All (λ job. May job (got owner job)) jobs
 
 -- n ticks are the mandatory ticks of a job, or those and its optional ones: its optional part is run whole or not at all

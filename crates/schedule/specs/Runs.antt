@@ -1,7 +1,7 @@
 -- Run lists, as three columns of numbers, and the owner of ticks that a run list describes.
 use Prim.Native.Nat.{ℕ}
 use mathlib.Core.Path.{_≡_}
-use mathlib.Core.List.{List, [], _∷_}
+use mathlib.Core.List.{List, [], _∷_, map}
 use mathlib.Core.Bool.{Bool, not}
 use mathlib.Core.Option.{none, some}
 use lib.Dec.{leb, ltb, eqb}
@@ -13,7 +13,8 @@ use Rattle.schedule.specs.declared.Job.{Job}
 use Rattle.schedule.specs.declared.Run.{Run}
 use Rattle.schedule.specs.Jobs.{workOf}
 use Rattle.schedule.specs.Ticks.{Owner}
-use Rattle.schedule.specs.Runnings.{All, got, RunningOf, Whole}
+use Rattle.schedule.specs.Runnings.{got, RunningOf, Whole}
+use Rattle.base.specs.Members.{All}
 
 -- the run of which every number is 0
 abbrev pub noRun : Run
@@ -30,14 +31,24 @@ runAt starts ends tasks k = record { start = getD starts k 0; end = getD ends k 
 unfoldable pub runsOf : List ℕ → List ℕ → List ℕ → List Run
 runsOf starts ends tasks = places (runAt starts ends tasks) (length starts)
 
+-- the columns of a run list
+abbrev pub startsOf : List Run → List ℕ
+startsOf runs = map (λ run. run .start) runs
+
+abbrev pub endsOf : List Run → List ℕ
+endsOf runs = map (λ run. run .end) runs
+
+abbrev pub tasksOf : List Run → List ℕ
+tasksOf runs = map (λ run. run .task) runs
+
 -- the run holds the tick
-abbrev pub holds : Run → ℕ → Bool
-holds run tick = and (leb (run .start) tick) (ltb tick (run .end))
+abbrev pub runHolds : Run → ℕ → Bool
+runHolds run tick = and (leb (run .start) tick) (ltb tick (run .end))
 
 -- who has each tick: the task of the first run that holds it, or none
 unfoldable pub ownerOf : List Run → Owner
 ownerOf [] tick = none
-ownerOf (run ∷ runs) tick = pick (holds run tick) (some (run .task)) (ownerOf runs tick)
+ownerOf (run ∷ runs) tick = pick (runHolds run tick) (some (run .task)) (ownerOf runs tick)
 
 -- a list of numbers, one a position, and runs are together a running: the runs are one, and each job gets the work that its number says
 pub record TogetherOf (May : Job → ℕ → Type 0) (workBy : Job → ℕ → ℕ) (jobs : List Job) (numbers : List ℕ) (runs : List Run) : Type 0 where

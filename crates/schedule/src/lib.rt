@@ -8,7 +8,7 @@ ghost use Rattle.base.specs.Tests.{pick};
 ghost use Rattle.base.specs.Places.{places};
 ghost use Rattle.table.specs.Tables.{taskAt};
 ghost use Rattle.clock.specs.Clock.{LegalPeriod};
-ghost use Rattle.schedule.specs.Jobs.{noJob, jobOf, jobAt};
+ghost use Rattle.schedule.specs.Jobs.{noJob, jobOf, jobAt, windowTicks};
 ghost use Rattle.schedule.specs.Runs.{badColumns};
 use base::MAX_RUNS;
 use base::MAX_TASKS;
@@ -84,6 +84,16 @@ pub fn job_of(task: Task, p: u32, q: u32, position: u32) -> Job
         mandatory: task.mandatory,
         optional: task.optional,
     }
+}
+
+// The ticks of a job's window.
+pub fn window_ticks(job: Job) -> u32
+    ensures { λ r. ⌜ r ≡ windowTicks job ⌝ }
+{
+    if job.deadline <= job.release {
+        return 0;
+    }
+    job.deadline - job.release
 }
 
 // The jobs of an accepted table, by position; the places beyond its count are 0.

@@ -5,11 +5,9 @@
 use libc::STDERR_FILENO;
 use libc::STDIN_FILENO;
 use libc::STDOUT_FILENO;
+use table::MAX_FILE;
 use table::Table;
 use table::Written;
-
-// The bytes of a file of 64 tasks, which no file exceeds.
-const MAX_FILE: usize = 500;
 
 // The most bytes of a text: one byte of the buffer is left to tell a longer one.
 const MAX_TEXT: usize = 65_535;

@@ -9,9 +9,8 @@ use lib.Dec.{leb, ltb, eqb}
 use lib.ListN.{getD, set, replicate}
 use Rattle.base.specs.Limits.{maxTasks}
 use Rattle.base.specs.Tests.{pick, and, or}
-use Rattle.table.specs.declared.Task.{Task}
 use Rattle.table.specs.declared.Table.{Table}
-use Rattle.table.specs.Tables.{noTable}
+use Rattle.table.specs.Tables.{noTable, taskOf}
 use Rattle.table_text.specs.declared.Line.{Line}
 use Rattle.table_text.specs.declared.Scan.{Scan}
 use Rattle.table_text.specs.declared.Parsed.{Parsed}
@@ -56,11 +55,6 @@ withByte l byte = pick (isDigit byte) (withDigit l (byte - 48)) (pick (isBlank b
 -- how many numbers are due on a line, in a text for `count` tasks: three on line 1, four for each task, none after the last task
 unfoldable pub due : ℕ → ℕ → ℕ
 due line count = pick (leb line 1) 3 (pick (leb line (count + 1)) 4 0)
-
--- the task of a line's four numbers
-unfoldable pub taskOf : List ℕ → Task
-taskOf numbers =
-    record { release = getD numbers 0 0; deadline = getD numbers 1 0; mandatory = getD numbers 2 0; optional = getD numbers 3 0 }
 
 -- what a table holds once a line is read: line 1 gives task count, p and q, and line k + 2 gives the task at position k.
 -- Places there are 64: a task beyond them is not kept, and the count tells of it.

@@ -1,8 +1,9 @@
 // A table written by hand: from lines of text to a table value, and from a refusal of writing back to the line it is about.
 ghost use mathlib.Core.Path.{_≡_};
-ghost use Prim.Native.Nat.{_+_, _^_, _≤_, _<_};
-ghost use lib.ListN.{length};
-ghost use Rattle.table_text.specs.TableText.{isBlank, isDigit, noLine, spoiled, withDigit, withNumber, withByte, due, taskOf, withLine, lineWrong, endLine, step, start, found, parsed, aboutTask, refusedLine};
+ghost use Prim.Native.Nat.{_+_, _^_, _<_};
+ghost use Rattle.table.specs.Tables.{taskOf};
+ghost use Rattle.table_text.specs.TableText.{isBlank, isDigit, noLine, spoiled, withDigit, withNumber, withByte};
+ghost use Rattle.table_text.specs.TableText.{due, withLine, lineWrong, endLine, step, start, parsed, aboutTask, refusedLine};
 use base::MAX_TASKS;
 use table::Table;
 use table::Task;

@@ -7,11 +7,12 @@ use libc::STDERR_FILENO;
 use libc::STDIN_FILENO;
 use libc::STDOUT_FILENO;
 use table::Answer;
+use table::MAX_FILE;
 use table::Table;
 use table::Task;
 
-// One byte more than a file of 64 tasks: a longer file is refused by what these bytes hold.
-const ENOUGH: usize = 501;
+// One byte more than the longest table file: a longer file is refused by what these bytes hold.
+const ENOUGH: usize = MAX_FILE + 1;
 
 // Text on standard output.
 fn text(bytes: &[u8]) {

@@ -21,7 +21,7 @@ same-length-4 c = search needs
 returns : tie.Need-returns
 returns c =
     let made = c .before .before .before .before .before .before .before .before .plan .ensures in
-    (made .0, (made .1 .0, (made .1 .1 .0, (made .1 .1 .1 .0, made .1 .1 .1 .1 .0))))
+    (made .0, made .1 .0)
 
 pub planner-plan-spec : {M : Type 1} → statement M
 planner-plan-spec =

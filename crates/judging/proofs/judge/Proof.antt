@@ -9,7 +9,7 @@ use Rattle.table.specs.Writing.{Legal}
 use Rattle.table.proofs.AnswerLaws.{told-refused}
 use Rattle.table.proofs.RoundTrip.{read-legal, read-answer, read-is}
 use Rattle.schedule.specs.Judging.{judgeDeclined, judgeTable}
-use Rattle.judging.proofs.FairLaws.{read-refused, read-accepted, sound-of}
+use Rattle.schedule.proofs.VerdictLaws.{read-refused, read-accepted, sound-of}
 use Rattle.judging.proofs.judge.Statement.{statement}
 use Rattle.judging.proofs.judge.Tie as tie
 

@@ -12,7 +12,7 @@ use Rattle.schedule.specs.Runs.{badColumns, runsOf}
 use Rattle.schedule.specs.Judging.{verdict, firstBadMark, judgeDeclined}
 use Rattle.schedule.proofs.RunLaws.{columns-known}
 use Rattle.schedule.proofs.JobLaws.{legal-period, legal-frames}
-use Rattle.judging.proofs.FairLaws.{fair-verdict, jobs-at, kept-same, discarded-same, length-refused, mark-refused, columns-refused, says-yes, says-no}
+use Rattle.schedule.proofs.VerdictLaws.{pass-verdict, jobs-at, kept-same, discarded-same, length-refused, mark-refused, columns-refused, says-yes, says-no}
 use Rattle.judging.proofs.judge_table.Statement.{statement}
 use Rattle.judging.proofs.judge_table.Tie as tie
 
@@ -35,10 +35,10 @@ jobs : (c : tie.After-jobs-of) → (k : ℕ) → k < c .before .before .before .
 jobs c = jobs-at (c .before .before .before .before .before .before .before .before .before .before .before .args .table) (c .jobs-of .result) (legal-count (c .before .before .before .before .before .before .before .before .before .before .before .pre) .1) (c .jobs-of .ensures)
 
 -- what was found of the five conditions is the verdict
-fair-is : (c : tie.After-is-fair) → c .is-fair .result ≡ verdict (c .before .before .before .before .before .before .before .before .before .before .before .before .args .table) (c .before .before .before .before .before .before .before .before .before .before .before .before .args .marks .now) (runsOf (c .before .before .before .before .before .before .before .before .before .before .before .before .args .starts .now) (c .before .before .before .before .before .before .before .before .before .before .before .before .args .ends .now) (c .before .before .before .before .before .before .before .before .before .before .before .before .args .tasks .now))
-fair-is c =
-    c .is-fair .ensures
-    ∙ fair-verdict (c .before .before .before .before .before .before .before .before .before .before .before .before .args .table) (c .before .before .before .before .before .before .before .before .before .before .before .before .args .marks .now) _ (λ k. getD (c .before .jobs-of .result) k noJob) (jobs (c .before))
+verdict-is : (c : tie.After-verdict-of) → c .verdict-of .result ≡ verdict (c .before .before .before .before .before .before .before .before .before .before .before .before .args .table) (c .before .before .before .before .before .before .before .before .before .before .before .before .args .marks .now) (runsOf (c .before .before .before .before .before .before .before .before .before .before .before .before .args .starts .now) (c .before .before .before .before .before .before .before .before .before .before .before .before .args .ends .now) (c .before .before .before .before .before .before .before .before .before .before .before .before .args .tasks .now))
+verdict-is c =
+    c .verdict-of .ensures
+    ∙ pass-verdict (c .before .before .before .before .before .before .before .before .before .before .before .before .args .table) (c .before .before .before .before .before .before .before .before .before .before .before .before .args .marks .now) _ (λ k. getD (c .before .jobs-of .result) k noJob) (jobs (c .before))
 
 -- a yes is the same where its counts are
 reply-is : {k k₂ d d₂ : ℕ} → k ≡ k₂ → d ≡ d₂
@@ -80,8 +80,8 @@ jobs-of-requires c κs =
     let l = c .before .before .before .before .before .before .before .before .before .before .pre in
     (legal-count l .1, (legal-period t l, legal-frames t l))
 
-is-fair-requires : tie.Need-is-fair-requires
-is-fair-requires c κs =
+verdict-of-requires : tie.Need-verdict-of-requires
+verdict-of-requires c κs =
     let k = columns-known _ _ _ (columns (c .before)) in
     (legal-count (c .before .before .before .before .before .before .before .before .before .before .before .pre) .1, (long (c .before .before .before .before .before), (k .few, (k .ends-are, k .tasks-are))))
 
@@ -102,7 +102,7 @@ returns-4 c =
     let discarded = c .before .count-marked2 .ensures ∙ discarded-same t marks (λ k. getD (c .before .before .before .before .before .jobs-of .result) k noJob) (jobs (c .before .before .before .before .before)) in
     c .says .ensures
     ∙ (reply-is kept discarded
-    ∙ says-yes (c .before .before .before .before .before .before .before .before .before .before .before .before .before .before .before .before .args .table) (c .before .before .before .before .before .before .before .before .before .before .before .before .before .before .before .before .args .marks .now) (c .before .before .before .before .before .before .before .before .before .before .before .before .before .before .before .before .args .starts .now) (c .before .before .before .before .before .before .before .before .before .before .before .before .before .before .before .before .args .ends .now) (c .before .before .before .before .before .before .before .before .before .before .before .before .before .before .before .before .args .tasks .now) (long (c .before .before .before .before .before .before .before .before .before .before)) (good (c .before .before .before .before .before .before .before .before)) (columns (c .before .before .before .before .before .before)) (sym (fair-is (c .before .before .before .before)) ∙ c .before .before .before .if4 .taken))
+    ∙ says-yes (c .before .before .before .before .before .before .before .before .before .before .before .before .before .before .before .before .args .table) (c .before .before .before .before .before .before .before .before .before .before .before .before .before .before .before .before .args .marks .now) (c .before .before .before .before .before .before .before .before .before .before .before .before .before .before .before .before .args .starts .now) (c .before .before .before .before .before .before .before .before .before .before .before .before .before .before .before .before .args .ends .now) (c .before .before .before .before .before .before .before .before .before .before .before .before .before .before .before .before .args .tasks .now) (long (c .before .before .before .before .before .before .before .before .before .before)) (good (c .before .before .before .before .before .before .before .before)) (columns (c .before .before .before .before .before .before)) (sym (verdict-is (c .before .before .before .before)) ∙ c .before .before .before .if4 .taken))
 
 says-requires-2 : tie.Need-says-requires-2
 says-requires-2 c κs = search needs
@@ -110,7 +110,7 @@ says-requires-2 c κs = search needs
 returns-5 : tie.Need-returns-5
 returns-5 c =
     c .says2 .ensures
-    ∙ says-no (c .before .before .before .before .before .before .before .before .before .before .before .before .before .before .args .table) (c .before .before .before .before .before .before .before .before .before .before .before .before .before .before .args .marks .now) (c .before .before .before .before .before .before .before .before .before .before .before .before .before .before .args .starts .now) (c .before .before .before .before .before .before .before .before .before .before .before .before .before .before .args .ends .now) (c .before .before .before .before .before .before .before .before .before .before .before .before .before .before .args .tasks .now) (long (c .before .before .before .before .before .before .before .before)) (good (c .before .before .before .before .before .before)) (columns (c .before .before .before .before)) (sym (fair-is (c .before .before)) ∙ c .before .if4 .left)
+    ∙ says-no (c .before .before .before .before .before .before .before .before .before .before .before .before .before .before .args .table) (c .before .before .before .before .before .before .before .before .before .before .before .before .before .before .args .marks .now) (c .before .before .before .before .before .before .before .before .before .before .before .before .before .before .args .starts .now) (c .before .before .before .before .before .before .before .before .before .before .before .before .before .before .args .ends .now) (c .before .before .before .before .before .before .before .before .before .before .before .before .before .before .args .tasks .now) (long (c .before .before .before .before .before .before .before .before)) (good (c .before .before .before .before .before .before)) (columns (c .before .before .before .before)) (sym (verdict-is (c .before .before)) ∙ c .before .if4 .left)
 
 pub judge-table-spec : {M : Type 1} → statement M
 judge-table-spec =
@@ -126,7 +126,7 @@ judge-table-spec =
     declined-requires-3
     returns-3
     jobs-of-requires
-    is-fair-requires
+    verdict-of-requires
     count-marked-requires
     count-marked-requires-2
     says-requires

@@ -12,13 +12,13 @@ use Rattle.base.proofs.TestLaws.{both-absurd, and-left}
 use Rattle.schedule.specs.declared.Job.{Job}
 use Rattle.schedule.specs.Jobs.{noJob}
 use Rattle.schedule.specs.Runs.{runAt, runsOf}
-use Rattle.judging.specs.Passing.{runFits}
-use Rattle.judging.proofs.PassLaws.{Passed, passed-start, passed-task, passed-run, passed-step, passed-all, passed-totals}
+use Rattle.schedule.specs.Passing.{runFits}
+use Rattle.schedule.proofs.PassLaws.{PassedUpTo, passed-start, passed-task, passed-run, passed-step, passed-all, passed-totals}
 use Rattle.judging.proofs.pass_runs.Statement.{statement}
 use Rattle.judging.proofs.pass_runs.Tie as tie
 
 abbrev Inv-loop : tie.InvT-loop
-Inv-loop count starts ends tasks jobs totals₀ from₀ i₀ totals from i = Passed (λ k. getD jobs k noJob) count (runAt starts ends tasks) (length starts) totals from i
+Inv-loop count starts ends tasks jobs totals₀ from₀ i₀ totals from i = PassedUpTo (λ k. getD jobs k noJob) count (runAt starts ends tasks) (length starts) totals from i
 
 abbrev μ-loop : tie.MeasureT-loop
 μ-loop count starts ends tasks jobs totals₀ from₀ i₀ totals from i = length starts - i

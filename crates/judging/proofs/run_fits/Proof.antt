@@ -1,6 +1,6 @@
 -- `judging::run_fits` meets its contract: each return knows the tests that led there.
 use borrow.Author.Tests.{lt-ltb, le-ltb, le-leb, lt-leb}
-use Rattle.judging.specs.Passing.{runFits}
+use Rattle.schedule.specs.Passing.{runFits}
 use Rattle.judging.proofs.run_fits.Statement.{statement}
 use Rattle.judging.proofs.run_fits.Tie as tie
 

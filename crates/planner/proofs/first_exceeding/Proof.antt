@@ -7,8 +7,8 @@ use lib.ListN.{getD}
 use Rattle.base.specs.Limits.{maxTasks, maxTicks}
 use Rattle.base.specs.Places.{firstPlaces}
 use Rattle.schedule.specs.Jobs.{noJob, Bounded}
-use Rattle.planner.specs.Planning.{exceedingAfter}
-use Rattle.planner.proofs.ExceedLaws.{exceeding-found, exceeding-passed, exceeding-none}
+use Rattle.plans.specs.Planning.{exceedingAfter}
+use Rattle.plans.proofs.ExceedLaws.{exceeding-found, exceeding-passed, exceeding-none}
 use Rattle.planner.proofs.first_exceeding.Statement.{statement}
 use Rattle.planner.proofs.first_exceeding.Tie as tie
 

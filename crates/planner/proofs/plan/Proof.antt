@@ -2,7 +2,6 @@
 use mathlib.Core.Path.{_≡_, sym, ap, ap₂, subst⁻¹, _∙_}
 use borrow.Author.Needs.{needs}
 use lib.Dec.{eqb}
-use lib.ListN.{length}
 use Rattle.table.specs.declared.Table.{Table}
 use Rattle.table.specs.declared.Answer.the-variants.{Accepted}
 use Rattle.table.specs.Answers.{numberOf, placeOf, isAccepted}
@@ -10,9 +9,9 @@ use Rattle.table.specs.Reading.{tableIn, readAnswer}
 use Rattle.table.specs.Writing.{Legal}
 use Rattle.table.proofs.AnswerLaws.{told-refused, refused-number}
 use Rattle.table.proofs.RoundTrip.{read-legal, read-answer, read-is}
-use Rattle.planner.specs.declared.Planned.{Planned}
-use Rattle.planner.specs.Planning.{planDeclined, planTable, marksAfter, startsAfter, endsAfter, tasksAfter}
-use Rattle.planner.proofs.ReplyLaws.{Lists, lists-kept, file-refused, file-accepted, call-clauses}
+use Rattle.plans.specs.declared.Planned.{Planned}
+use Rattle.plans.specs.Planning.{LentLists, planDeclined, planTable, listsAfter}
+use Rattle.plans.proofs.ReplyLaws.{lists-kept, file-refused, file-accepted, call-clauses}
 use Rattle.planner.proofs.plan.Statement.{statement}
 use Rattle.planner.proofs.plan.Tie as tie
 
@@ -24,7 +23,7 @@ table-is : (c : tie.After-enum-told) → c .before .before .read .result .table 
 table-is c = read-is _ _ (c .before .before .read .ensures) (accepted c)
 
 -- the lists that are lent
-abbrev lent : (c : tie.Start) → Lists
+abbrev lent : (c : tie.Start) → LentLists
 lent c = record { marks = c .args .marks .now; starts = c .args .starts .now; ends = c .args .ends .now; tasks = c .args .tasks .now }
 
 read-requires : tie.Need-read-requires
@@ -49,16 +48,10 @@ returns c =
     let answer = read-answer file _ (c .before .before .before .before .read .ensures) in
     let bad = ap isAccepted (sym answer) ∙ told-refused (c .before .before .before .before .read .result .answer) (c .before .before .before .match .keys2) in
     let says = c .declined .ensures ∙ ap₂ planDeclined (c .before .before .number .ensures ∙ ap numberOf answer) (c .before .place .ensures ∙ ap placeOf answer) in
-    let kept =
-    lists-kept (tableIn file) (c .declined .result .number) (ap (λ (p : Planned). eqb (p .number) 0) says ∙ refused-number (readAnswer file) bad) (start .args .marks .now)
-    (start .args .starts .now) (start .args .ends .now) (start .args .tasks .now) in
     call-clauses file (c .declined .result) (lent start) (lent start)
     (record {
-      reply-is = says ∙ sym (file-refused file _ _ _ _ bad);
-      marks-are = kept .0;
-      starts-are = kept .1;
-      ends-are = kept .2;
-      tasks-are = kept .3;
+      reply-is = says ∙ sym (file-refused file _ bad);
+      lists-are = lists-kept (tableIn file) (c .declined .result) (lent start) (ap (λ (p : Planned). eqb (p .number) 0) says ∙ refused-number (readAnswer file) bad);
     })
 
 plan-table-requires : tie.Need-plan-table-requires
@@ -82,15 +75,11 @@ returns-2 c =
     let file = start .args .file .now in
     let e = table-is (c .before .before .before .before .before .before .before .before .before .before .before .before .before .before) in
     let made = c .before .before .before .before .before .before .before .before .plan-table in
-    let number = made .result .number in
     call-clauses file (made .result) (lent start)
     (record { marks = made .last .1 .0; starts = made .last .1 .1 .0; ends = made .last .1 .1 .1 .0; tasks = made .last .1 .1 .1 .1 .0 })
     (record {
-      reply-is = made .ensures .0 ∙ (ap (λ (t : Table). planTable t (length (start .args .marks .now)) (length (start .args .starts .now)) (length (start .args .ends .now)) (length (start .args .tasks .now))) e ∙ sym (file-accepted file _ _ _ _ (accepted (c .before .before .before .before .before .before .before .before .before .before .before .before .before .before))));
-      marks-are = made .ensures .1 ∙ ap (λ (t : Table). marksAfter t number (start .args .marks .now)) e;
-      starts-are = made .ensures .2 ∙ ap (λ (t : Table). startsAfter t number (start .args .starts .now)) e;
-      ends-are = made .ensures .3 ∙ ap (λ (t : Table). endsAfter t number (start .args .ends .now)) e;
-      tasks-are = made .ensures .4 ∙ ap (λ (t : Table). tasksAfter t number (start .args .tasks .now)) e;
+      reply-is = made .ensures .0 ∙ (ap (λ (t : Table). planTable t (lent start)) e ∙ sym (file-accepted file _ (accepted (c .before .before .before .before .before .before .before .before .before .before .before .before .before .before))));
+      lists-are = made .ensures .1 ∙ ap (λ (t : Table). listsAfter t (made .result) (lent start)) e;
     })
 
 pub plan-spec : {M : Type 1} → statement M

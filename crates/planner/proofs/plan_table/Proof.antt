@@ -5,11 +5,11 @@ use borrow.Author.Needs.{needs}
 use borrow.Author.Tests.{le-ltb}
 use lib.Dec.{eqb}
 use Rattle.table.proofs.FileLaws.{legal-count}
-use Rattle.planner.specs.declared.Planned.{Planned}
-use Rattle.planner.specs.Planning.{firstExceeding, planDeclined, planOf}
-use Rattle.planner.proofs.PlanLaws.{none-exceeds}
-use Rattle.planner.proofs.ReplyLaws.{table-exceeds, table-short, table-plans, lists-kept, lists-written}
-use Rattle.planner.proofs.ArrayLaws.{array-bounded, array-exceeding}
+use Rattle.plans.specs.declared.Planned.{Planned}
+use Rattle.plans.specs.Planning.{firstExceeding, planDeclined, planOf}
+use Rattle.plans.proofs.PlanLaws.{none-exceeds}
+use Rattle.plans.proofs.ReplyLaws.{table-exceeds, table-short, table-plans, lists-kept, lists-written}
+use Rattle.plans.proofs.ArrayLaws.{array-bounded, array-exceeding}
 use Rattle.planner.proofs.plan_table.Statement.{statement}
 use Rattle.planner.proofs.plan_table.Tie as tie
 
@@ -37,8 +37,7 @@ returns : tie.Need-returns
 returns c =
     let start = c .before .before .before .before .before .before .before .before .before in
     let found = searched (c .before .before) in
-    let kept = lists-kept (start .args .table) (c .declined .result .number) (ap (λ (p : Planned). eqb (p .number) 0) (c .declined .ensures)) (start .args .marks .now) (start .args .starts .now) (start .args .ends .now) (start .args .tasks .now) in
-    (c .declined .ensures ∙ ap (planDeclined 8) found ∙ sym (table-exceeds (start .args .table) _ _ _ _ (omega (arith, found))), kept .0, kept .1, kept .2, kept .3)
+    (c .declined .ensures ∙ ap (planDeclined 8) found ∙ sym (table-exceeds (start .args .table) _ (omega (arith, found))), lists-kept (start .args .table) (c .declined .result) _ (ap (λ (p : Planned). eqb (p .number) 0) (c .declined .ensures)))
 
 too-short-requires : tie.Need-too-short-requires
 too-short-requires c κs = legal-count (c .before .before .before .before .before .before .before .before .pre)
@@ -50,8 +49,7 @@ returns-2 : tie.Need-returns-2
 returns-2 c =
     let start = c .before .before .before .before .before .before .before .before .before .before .before in
     let found = searched (c .before .before .before .before) in
-    let kept = lists-kept (start .args .table) (c .declined2 .result .number) (ap (λ (p : Planned). eqb (p .number) 0) (c .declined2 .ensures)) (start .args .marks .now) (start .args .starts .now) (start .args .ends .now) (start .args .tasks .now) in
-    (c .declined2 .ensures ∙ sym (table-short (start .args .table) _ _ _ _ (omega (arith, found)) (sym (c .before .before .too-short .ensures) ∙ c .before .if2 .taken)), kept .0, kept .1, kept .2, kept .3)
+    (c .declined2 .ensures ∙ sym (table-short (start .args .table) _ (omega (arith, found)) (sym (c .before .before .too-short .ensures) ∙ c .before .if2 .taken)), lists-kept (start .args .table) (c .declined2 .result) _ (ap (λ (p : Planned). eqb (p .number) 0) (c .declined2 .ensures)))
 
 put-plan-requires : tie.Need-put-plan-requires
 put-plan-requires c κs =
@@ -82,8 +80,7 @@ returns-3 c =
     let start = c .before .before .before .before .before .before .before .before .before .before .before .before .before .before .before .before .before .before .before .before .before .before .before in
     let found = searched (c .before .before .before .before .before .before .before .before .before .before .before .before .before .before .before .before) in
     let put = c .before .before .before .before .before .before .before .before .put-plan .ensures in
-    let front = lists-written (start .args .table) (c .before .before .before .before .before .before .before .before .put-plan .result .number) (ap (λ (p : Planned). p .number) (put .0)) (start .args .marks .now) (start .args .starts .now) (start .args .ends .now) (start .args .tasks .now) in
-    (put .0 ∙ sym (table-plans (start .args .table) _ _ _ _ (omega (arith, found)) (sym (c .before .before .before .before .before .before .before .before .before .before .before .before .before .before .too-short .ensures) ∙ c .before .before .before .before .before .before .before .before .before .before .before .before .before .if2 .left)), put .1 ∙ front .0, put .2 ∙ front .1, put .3 ∙ front .2, put .4 ∙ front .3)
+    (put .0 ∙ sym (table-plans (start .args .table) _ (omega (arith, found)) (sym (c .before .before .before .before .before .before .before .before .before .before .before .before .before .before .too-short .ensures) ∙ c .before .before .before .before .before .before .before .before .before .before .before .before .before .if2 .left)), put .1 ∙ lists-written (start .args .table) (c .before .before .before .before .before .before .before .before .put-plan .result) _ (ap (λ (p : Planned). p .number) (put .0)))
 
 pub plan-table-spec : {M : Type 1} → statement M
 plan-table-spec =

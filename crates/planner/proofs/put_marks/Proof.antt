@@ -8,7 +8,7 @@ use lib.ListN.{getD}
 use Rattle.schedule.specs.Jobs.{noJob}
 use Rattle.schedule.specs.Ticks.{one}
 use Rattle.placement.proofs.PositionLaws.{Put, put-start, put-next}
-use Rattle.planner.proofs.MarkLaws.{marked-end}
+use Rattle.plans.proofs.MarkLaws.{marked-end}
 use Rattle.planner.proofs.put_marks.Statement.{statement}
 use Rattle.planner.proofs.put_marks.Tie as tie
 

@@ -3,7 +3,8 @@ use mathlib.Core.Path.{_∙_}
 use borrow.Author.Needs.{needs}
 use lib.ListN.{length}
 use Rattle.table.proofs.FileLaws.{legal-count}
-use Rattle.planner.proofs.ArrayLaws.{Room, room-known, array-bounded, array-below, array-distinct, array-cover, array-chain, array-none, array-fits, array-marks, array-column, array-reply}
+use Rattle.plans.proofs.ReplyLaws.{written-lists}
+use Rattle.plans.proofs.ArrayLaws.{Room, room-known, array-bounded, array-below, array-distinct, array-cover, array-chain, array-none, array-fits, array-marks, array-column, array-reply}
 use Rattle.planner.proofs.put_plan.Statement.{statement}
 use Rattle.planner.proofs.put_plan.Tie as tie
 
@@ -79,10 +80,11 @@ returns c =
     let column = array-column (start .args .table) (start .pre .0) (start .args .jobs) (start .pre .1 .0) (start .pre .1 .1 .0) (choice .result .keeps) (choice .ensures .0) in
     let front = array-marks (start .args .table) (start .pre .0) (start .args .jobs) (start .pre .1 .0) (start .pre .1 .1 .0) (choice .result .keeps) (choice .ensures .0) in (
       reply (placed .result) (choice .result .kept) (choice .result .discarded) (placed .ensures .0) (choice .ensures .1) (choice .ensures .2),
-      c .before .before .before .before .before .before .before .before .before .before .before .before .put-marks .ensures ∙ front (start .args .marks .now),
-      placed .ensures .1 ∙ column (λ run. run .start) (start .args .starts .now),
-      placed .ensures .2 ∙ column (λ run. run .end) (start .args .ends .now),
-      placed .ensures .3 ∙ column (λ run. run .task) (start .args .tasks .now),
+      written-lists (start .args .table) _ _
+          (c .before .before .before .before .before .before .before .before .before .before .before .before .put-marks .ensures ∙ front (start .args .marks .now))
+          (placed .ensures .1 .0 ∙ column (λ run. run .start) (start .args .starts .now))
+          (placed .ensures .1 .1 ∙ column (λ run. run .end) (start .args .ends .now))
+          (placed .ensures .1 .2 ∙ column (λ run. run .task) (start .args .tasks .now)),
     )
 
 pub put-plan-spec : {M : Type 1} → statement M

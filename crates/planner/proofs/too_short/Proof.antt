@@ -1,7 +1,7 @@
 -- `planner::too_short` meets its contract.
 use borrow.Author.Needs.{needs}
 use borrow.Author.Tests.{lt-ltb, le-ltb}
-use Rattle.planner.specs.Planning.{tooShort}
+use Rattle.plans.specs.Planning.{tooShort}
 use Rattle.planner.proofs.too_short.Statement.{statement}
 use Rattle.planner.proofs.too_short.Tie as tie
 

@@ -3,8 +3,8 @@ use mathlib.Core.Path.{ap}
 use native.Mathlib.Omega.{arith}
 use borrow.Author.Needs.{needs}
 use lib.ListN.{length}
-use Rattle.report.proofs.PutLaws.{put-join}
-use Rattle.report.proofs.DecimalLaws.{decimal-low, decimal-high, longer-by-one}
+use Rattle.printed_plan.proofs.PutLaws.{put-join}
+use Rattle.printed_plan.proofs.DecimalLaws.{decimal-low, decimal-high, longer-by-one}
 use Prim.Native.Nat.{ℕ, _<_}
 use borrow.Fn.Kinds.{In}
 use borrow.Fn.PlainCycle.{Measures, is, falls, and}

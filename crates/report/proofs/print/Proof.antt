@@ -2,41 +2,43 @@
 use Prim.Native.Nat.{_≤_}
 use mathlib.Core.Path.{_≡_, refl, sym, _∙_}
 use native.Mathlib.Omega.{arith}
-use lib.ListN.{length, replicate}
+use lib.ListN.{length}
 use lib.Seq.{length-take-le}
 use borrow.Author.Tests.{lt-ltb}
 use borrow.Author.Needs.{needs}
 use Rattle.table.specs.Reading.{tableIn}
-use Rattle.planner.proofs.ReplyLaws.{Lists, Replied}
-use Rattle.report.specs.Printing.{longReply, maxText, printLength, printedOver}
-use Rattle.report.proofs.TextLaws.{refusal-length, printed-length, printed-refused, file-bits, count-fits, runs-fit, text-is, count-is, print-clauses}
+use Rattle.base.specs.Limits.{maxTasks, maxPlanRuns}
+use Rattle.plans.specs.Planning.{LentLists, listsFor}
+use Rattle.plans.proofs.ReplyLaws.{Replied}
+use Rattle.printed_plan.specs.Printing.{longReply, maxText, printLength, printedOver}
+use Rattle.printed_plan.proofs.TextLaws.{refusal-length, printed-length, printed-refused, file-bits, count-fits, runs-fit, text-is, count-is, print-clauses}
 use Rattle.report.proofs.print.Statement.{statement}
 use Rattle.report.proofs.print.Tie as tie
 
 -- the lists that are lent, before and after planning
-abbrev old : Lists
-old = record { marks = replicate 64 0; starts = replicate 127 0; ends = replicate 127 0; tasks = replicate 127 0 }
+abbrev old : LentLists
+old = listsFor maxTasks
 
-abbrev new : tie.After-plan → Lists
+abbrev new : tie.After-plan → LentLists
 new c = record { marks = c .plan .last .1 .0; starts = c .plan .last .1 .1 .0; ends = c .plan .last .1 .1 .1 .0; tasks = c .plan .last .1 .1 .1 .1 .0 }
 
 replied : (c : tie.After-plan) → Replied (c .before .before .before .before .before .before .before .before .args .file .now) (c .plan .result) old (new c)
 replied c =
     let e = c .plan .ensures in
-    record { reply-is = e .0; marks-are = e .1 .0; starts-are = e .1 .1 .0; ends-are = e .1 .1 .1 .0; tasks-are = e .1 .1 .1 .1 .0 }
+    record { reply-is = e .0; lists-are = e .1 .0 }
 
 long : (c : tie.After-plan) → c .plan .result ≡ longReply (c .before .before .before .before .before .before .before .before .args .file .now)
 unfolding longReply
 long c = c .plan .ensures .0
 
-lengths : (c : tie.After-plan) → (length (new c .marks) ≡ 64) × (length (new c .starts) ≡ 127) × (length (new c .ends) ≡ 127) × (length (new c .tasks) ≡ 127)
+lengths : (c : tie.After-plan) → (length (new c .marks) ≡ maxTasks) × (length (new c .starts) ≡ maxPlanRuns) × (length (new c .ends) ≡ maxPlanRuns) × (length (new c .tasks) ≡ maxPlanRuns)
 lengths c = omega (arith, c .plan .kept)
 
 -- after a reply of 0
 counted : (c : tie.After-take) → c .take .result .value ≡ tableIn (c .before .before .before .before .before .before .before .before .before .before .before .before .before .before .before .before .args .file .now) .count
 counted c = count-is _ _ _ (c .before .new .ensures) (c .take .ensures .0)
 
-few : (c : tie.After-take) → c .before .before .before .before .before .before .before .before .plan .result .runs ≤ 127
+few : (c : tie.After-take) → c .before .before .before .before .before .before .before .before .plan .result .runs ≤ maxPlanRuns
 few c = runs-fit _ _ _ _ (replied (c .before .before .before .before .before .before .before .before)) (c .before .before .if2 .left)
 
 returns : tie.Need-returns

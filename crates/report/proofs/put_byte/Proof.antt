@@ -1,7 +1,7 @@
 -- `report::put_byte` meets its contract.
 use native.Mathlib.Omega.{arith}
 use borrow.Author.Needs.{needs}
-use Rattle.report.proofs.PutLaws.{put-one}
+use Rattle.printed_plan.proofs.PutLaws.{put-one}
 use Rattle.report.proofs.put_byte.Statement.{statement}
 use Rattle.report.proofs.put_byte.Tie as tie
 

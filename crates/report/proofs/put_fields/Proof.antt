@@ -3,9 +3,9 @@ use Prim.Native.Nat.{ℕ, _+_, _-_, _≤_}
 use mathlib.Core.List.{List, _∷_, _++_}
 use native.Mathlib.Omega.{arith}
 use lib.ListN.{length, getD}
-use Rattle.report.specs.Printing.{space, decimal, fields}
-use Rattle.report.proofs.PutLaws.{put-join, Putting, putting-start, putting-room, putting-fits, putting-step, putting-end}
-use Rattle.report.proofs.LineLaws.{fieldsLeft, fields-start, fields-step, fields-end}
+use Rattle.printed_plan.specs.Printing.{space, decimal, fields}
+use Rattle.printed_plan.proofs.PutLaws.{put-join, Putting, putting-start, putting-room, putting-fits, putting-step, putting-end}
+use Rattle.printed_plan.proofs.LineLaws.{fieldsLeft, fields-start, fields-step, fields-end}
 use Rattle.report.proofs.put_fields.Statement.{statement}
 use Rattle.report.proofs.put_fields.Tie as tie
 

@@ -1,9 +1,9 @@
 -- `report::put_line` meets its contract: each part stands behind the one before it.
 use native.Mathlib.Omega.{arith}
 use borrow.Author.Needs.{needs}
-use Rattle.report.specs.Printing.{line}
-use Rattle.report.proofs.PutLaws.{put-three}
-use Rattle.report.proofs.LineLaws.{line-length}
+use Rattle.printed_plan.specs.Printing.{line}
+use Rattle.printed_plan.proofs.PutLaws.{put-three}
+use Rattle.printed_plan.proofs.LineLaws.{line-length}
 use Rattle.report.proofs.put_line.Statement.{statement}
 use Rattle.report.proofs.put_line.Tie as tie
 

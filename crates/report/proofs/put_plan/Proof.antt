@@ -2,9 +2,9 @@
 use native.Mathlib.Omega.{arith}
 use borrow.Author.Needs.{needs}
 use Rattle.schedule.specs.Runs.{runsOf}
-use Rattle.report.specs.Printing.{planLines}
-use Rattle.report.proofs.PutLaws.{put-three}
-use Rattle.report.proofs.LineLaws.{plan-length}
+use Rattle.printed_plan.specs.Printing.{planLines}
+use Rattle.printed_plan.proofs.PutLaws.{put-three}
+use Rattle.printed_plan.proofs.LineLaws.{plan-length}
 use Rattle.report.proofs.put_plan.Statement.{statement}
 use Rattle.report.proofs.put_plan.Tie as tie
 

@@ -1,7 +1,7 @@
 -- `report::put_refusal` meets its contract.
 use native.Mathlib.Omega.{arith}
 use borrow.Author.Needs.{needs}
-use Rattle.report.specs.Printing.{refusalText}
+use Rattle.printed_plan.specs.Printing.{refusalText}
 use Rattle.report.proofs.put_refusal.Statement.{statement}
 use Rattle.report.proofs.put_refusal.Tie as tie
 

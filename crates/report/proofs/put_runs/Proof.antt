@@ -4,9 +4,9 @@ use mathlib.Core.List.{List, _++_}
 use native.Mathlib.Omega.{arith}
 use lib.ListN.{length}
 use Rattle.schedule.specs.Runs.{runAt, runsOf}
-use Rattle.report.specs.Printing.{runLine, runLines}
-use Rattle.report.proofs.PutLaws.{Putting, putting-start, putting-room, putting-fits, putting-step, putting-end}
-use Rattle.report.proofs.LineLaws.{runsLeft, runs-start, runs-step, runs-end}
+use Rattle.printed_plan.specs.Printing.{runLine, runLines}
+use Rattle.printed_plan.proofs.PutLaws.{Putting, putting-start, putting-room, putting-fits, putting-step, putting-end}
+use Rattle.printed_plan.proofs.LineLaws.{runsLeft, runs-start, runs-step, runs-end}
 use Rattle.report.proofs.put_runs.Statement.{statement}
 use Rattle.report.proofs.put_runs.Tie as tie
 

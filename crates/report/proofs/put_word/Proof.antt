@@ -2,7 +2,7 @@
 use Prim.Native.Nat.{_-_}
 use native.Mathlib.Omega.{arith}
 use lib.ListN.{length}
-use Rattle.report.proofs.PutLaws.{Copied, copied-start, copied-next, copied-end}
+use Rattle.printed_plan.proofs.PutLaws.{Copied, copied-start, copied-next, copied-end}
 use Rattle.report.proofs.put_word.Statement.{statement}
 use Rattle.report.proofs.put_word.Tie as tie
 

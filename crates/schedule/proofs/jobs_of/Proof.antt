@@ -2,7 +2,7 @@
 use Prim.Native.Nat.{_-_, _≤_}
 use native.Mathlib.Omega.{arith}
 use Rattle.base.specs.Limits.{maxTasks}
-use Rattle.base.proofs.Filling.{Filled, filled-start, filled-set, filled-whole}
+use Rattle.base.proofs.ArrayFilling.{Filled, filled-start, filled-set, filled-whole}
 use Rattle.table.specs.Tables.{taskAt}
 use Rattle.schedule.specs.Jobs.{noJob, jobAt}
 use Rattle.schedule.proofs.jobs_of.Statement.{statement}

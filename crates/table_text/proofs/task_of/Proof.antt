@@ -1,7 +1,6 @@
 -- `table_text::task_of` meets its contract.
 use mathlib.Core.Path.{refl}
 use borrow.Author.Needs.{needs}
-use Rattle.table_text.specs.TableText.{taskOf}
 use Rattle.table_text.proofs.task_of.Statement.{statement}
 use Rattle.table_text.proofs.task_of.Tie as tie
 
@@ -18,7 +17,6 @@ array-read-t14 : tie.Need-array-read-t14
 array-read-t14 c = search needs
 
 returns : tie.Need-returns
-unfolding taskOf
 returns c = refl
 
 pub task-of-spec : {M : Type 1} → statement M

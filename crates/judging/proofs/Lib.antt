@@ -1,2 +1,0 @@
-pub mod PassLaws
-pub mod FairLaws

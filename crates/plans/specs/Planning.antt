@@ -1,0 +1,112 @@
+-- Planning a table: the keep list, the runs, the reply, and what the lent lists hold afterwards.
+use Prim.Native.Nat.{ℕ, _+_, _-_, _*_}
+use mathlib.Core.List.{List, [], _∷_, map}
+use mathlib.Core.Bool.{Bool}
+use lib.Dec.{ltb, eqb}
+use lib.ListN.{length, replicate}
+use Rattle.base.specs.Tests.{pick, or}
+use Rattle.base.specs.Places.{places}
+use Rattle.base.specs.Lent.{writtenFront}
+use Rattle.table.specs.declared.Table.{Table}
+use Rattle.table.specs.Answers.{numberOf, placeOf, isAccepted}
+use Rattle.table.specs.Reading.{tableIn, readAnswer}
+use Rattle.schedule.specs.declared.Job.{Job}
+use Rattle.schedule.specs.declared.Run.{Run}
+use Rattle.schedule.specs.Jobs.{jobAt, windowTicks}
+use Rattle.schedule.specs.Ticks.{one}
+use Rattle.schedule.specs.Runs.{startsOf, endsOf, tasksOf}
+use Rattle.choice.specs.Choice.{chosen, kept, discarded}
+use Rattle.placement.specs.Placing.{runsPlaced}
+use Rattle.placement.specs.ByPosition.{numberAt}
+use Rattle.nesting.specs.NestOrder.{nestOrder, jobsOutermostFirst}
+use Rattle.plans.specs.declared.Planned.{Planned}
+
+-- 8: 'first task in nest order where the mandatory ticks up to and with it exceed its window'.
+
+-- its position, among jobs in nest order that come after others of `sum` mandatory ticks, and n where there is none
+unfoldable pub exceedingAfter : ℕ → ℕ → List Job → ℕ
+exceedingAfter n sum [] = n
+exceedingAfter n sum (job ∷ jobs) =
+    pick (ltb (windowTicks job) (sum + job .mandatory)) (job .position) (exceedingAfter n (sum + job .mandatory) jobs)
+
+-- its position in a table, and the task count where there is none
+unfoldable pub firstExceeding : Table → ℕ
+firstExceeding t = exceedingAfter (t .count) 0 (map (jobAt t) (nestOrder t))
+
+-- 9: 'a lent list is too short: n marks, 2n − 1 runs'; from the lengths of the lists
+unfoldable pub tooShort : ℕ → ℕ → ℕ → ℕ → ℕ → Bool
+tooShort n marks starts ends tasks = or (ltb marks n) (or (ltb starts (2 * n - 1)) (or (ltb ends (2 * n - 1)) (ltb tasks (2 * n - 1))))
+
+-- the keep list of a table, outermost first
+unfoldable pub keepList : Table → List Bool
+keepList t = chosen (jobsOutermostFirst t)
+
+-- the mark of a position in a keep list of jobs: 1 kept, 0 discarded
+abbrev pub markAt : List Job → List Bool → ℕ → ℕ
+markAt jobs keeps = numberAt jobs (map one keeps)
+
+-- the marks of a plan: the keep list by position
+unfoldable pub planMarks : Table → List ℕ
+planMarks t = places (markAt (jobsOutermostFirst t) (keepList t)) (t .count)
+
+-- the runs of a plan, by start
+unfoldable pub planRuns : Table → List Run
+planRuns t = runsPlaced (jobsOutermostFirst t) (keepList t)
+
+-- the reply of a refusal, and of a plan: parts that are not named are 0
+abbrev pub planDeclined : ℕ → ℕ → Planned
+planDeclined number place = record { number = number; place = place; kept = 0; discarded = 0; runs = 0 }
+
+unfoldable pub planOf : Table → Planned
+planOf t =
+    record {
+      number = 0;
+      place = 0;
+      kept = kept (jobsOutermostFirst t) (keepList t);
+      discarded = discarded (jobsOutermostFirst t) (keepList t);
+      runs = length (planRuns t);
+    }
+
+-- The lists that a caller lends to planning: the marks, and the columns of the runs.
+pub record LentLists : Type 0 where
+  pub marks : List ℕ
+  pub starts : List ℕ
+  pub ends : List ℕ
+  pub tasks : List ℕ
+
+abbrev pub lent : List ℕ → List ℕ → List ℕ → List ℕ → LentLists
+lent marks starts ends tasks = record { marks = marks; starts = starts; ends = ends; tasks = tasks }
+
+-- lists that are just long enough for n tasks
+abbrev pub listsFor : ℕ → LentLists
+listsFor n = lent (replicate n 0) (replicate (2 * n - 1) 0) (replicate (2 * n - 1) 0) (replicate (2 * n - 1) 0)
+
+-- 9: 'a lent list is too short'
+abbrev pub shortLists : ℕ → LentLists → Bool
+shortLists n lists = tooShort n (length (lists .marks)) (length (lists .starts)) (length (lists .ends)) (length (lists .tasks))
+
+-- what planning replies on the table of an accepted file: 8, then 9, then the plan
+unfoldable pub planTable : Table → LentLists → Planned
+planTable t lists =
+    pick (ltb (firstExceeding t) (t .count)) (planDeclined 8 (firstExceeding t))
+    (pick (shortLists (t .count) lists) (planDeclined 9 0) (planOf t))
+
+-- the reply of planning: reading's refusals, then 8, then 9
+unfoldable pub planReply : List ℕ → LentLists → Planned
+planReply file lists =
+    pick (isAccepted (readAnswer file)) (planTable (tableIn file) lists)
+    (planDeclined (numberOf (readAnswer file)) (placeOf (readAnswer file)))
+
+-- the lists with the marks and the runs of a plan written at their fronts
+unfoldable pub planWritten : Table → LentLists → LentLists
+planWritten t lists =
+    record {
+      marks = writtenFront (planMarks t) (lists .marks);
+      starts = writtenFront (startsOf (planRuns t)) (lists .starts);
+      ends = writtenFront (endsOf (planRuns t)) (lists .ends);
+      tasks = writtenFront (tasksOf (planRuns t)) (lists .tasks);
+    }
+
+-- what they hold after planning a table that got a reply: a refusal leaves them as they were
+unfoldable pub listsAfter : Table → Planned → LentLists → LentLists
+listsAfter t reply lists = pick (eqb (reply .number) 0) (planWritten t lists) lists

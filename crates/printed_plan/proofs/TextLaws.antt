@@ -1,0 +1,185 @@
+-- Laws of the printed text: its parts, its greatest length, and what the plan call leaves to print.
+use Prim.Native.Nat.{ℕ, suc, _+_, _*_, _≤_, _<_}
+use mathlib.Core.Path.{_≡_, refl, sym, ap, ap₂, _∙_}
+use mathlib.Core.Bool.{false}
+use mathlib.Core.List.{List, [], _∷_}
+use native.Mathlib.Decide.{decLt}
+use native.Mathlib.Omega.{arith}
+use lib.Dec.{ltb, eqb}
+use lib.ListN.{length, take, length-append}
+use lib.Seq.{take-all}
+use borrow.Author.Tests.{eqb-true, eqb-false, ne-eqb, le-ltb}
+use Rattle.base.specs.Limits.{maxTasks, maxPlanRuns}
+use Rattle.base.proofs.TestLaws.{cases, pick-cases}
+use Rattle.bits.specs.Bits.{field, bytesFor}
+use Rattle.table.specs.Layout.{taskStart, fileLength, maxFile}
+use Rattle.table.specs.Answers.{numberOf, placeOf, isAccepted}
+use Rattle.table.specs.Reading.{countIn, tableIn, readAnswer}
+use Rattle.table.proofs.AnswerLaws.{refused-number}
+use Rattle.table.proofs.FileLaws.{legal-count}
+use Rattle.table.proofs.PrefixLaws.{long-refused, read-prefix}
+use Rattle.table.proofs.RoundTrip.{tableIn-count, read-length}
+use Rattle.schedule.specs.declared.Run.{Run}
+use Rattle.schedule.specs.Runs.{runsOf}
+use Rattle.plans.specs.declared.Planned.{Planned}
+use Rattle.plans.specs.Planning.{LentLists, planMarks, planRuns, planDeclined, planOf}
+use Rattle.schedule.proofs.ColumnLaws.{columns-runs}
+use Rattle.plans.proofs.PlanLaws.{Plannable, marks-length, plan-few}
+use Rattle.plans.proofs.ReplyLaws.{Replied, file-refused, plan-made, made, runs-are, marks-taken, starts-taken, ends-taken, tasks-taken}
+use Rattle.printed_plan.specs.Putting.{Put}
+use Rattle.printed_plan.specs.Printing.{planWord, dropWord, runWord, refusedWord, decimalWithin, decimal, fields, line, dropsFrom, dropLines, runLine, runLines, planLines, planText, refusalText, longReply, printed, maxLine, maxText, printLength, printedOver}
+use Rattle.printed_plan.proofs.PutLaws.{put-front}
+use Rattle.printed_plan.proofs.DecimalLaws.{decimal-length}
+use Rattle.printed_plan.proofs.LineLaws.{line-length, plan-length}
+
+-- a number takes at most 21 bytes with its space
+fields-length : (numbers : List ℕ) → length (fields numbers) ≤ 21 * length numbers
+unfolding fields
+fields-length [] = omega arith
+fields-length (n ∷ numbers) = omega (arith, length-append (decimal n) (fields numbers), decimal-length n, fields-length numbers)
+
+-- a line of a word and its numbers
+line-few : (word numbers : List ℕ) → length (line word numbers) ≤ length word + 21 * length numbers + 1
+line-few word numbers = omega (arith, line-length word numbers, fields-length numbers)
+
+drops-length : (k : ℕ) (marks : List ℕ) → length (dropsFrom k marks) ≤ maxLine * length marks
+unfolding dropsFrom
+drops-length k [] = omega arith
+drops-length k (mark ∷ marks) =
+    cases (eqb mark 0)
+    (λ e. rw e (omega (arith, length-append (line dropWord (k ∷ [])) (dropsFrom (suc k) marks), line-few dropWord (k ∷ []), drops-length (suc k) marks)))
+    (λ e. rw e (omega (arith, drops-length (suc k) marks)))
+
+runs-length : (runs : List Run) → length (runLines runs) ≤ maxLine * length runs
+unfolding runLines runLine
+runs-length [] = omega arith
+runs-length (run ∷ runs) =
+    omega (
+      arith,
+      length-append (runLine run) (runLines runs),
+      line-few runWord (run .start ∷ run .end ∷ run .task ∷ []),
+      runs-length runs,
+    )
+
+pub refusal-length : (number place : ℕ) → length (refusalText number place) ≤ maxText
+unfolding refusalText
+refusal-length number place = omega (arith, line-few refusedWord (number ∷ place ∷ []))
+
+-- the text of a plan that was made
+plan-text-length : (file : List ℕ) → Plannable file → length (planText (tableIn file)) ≤ maxText
+unfolding planText dropLines
+plan-text-length file p =
+    let t = tableIn file in
+    omega (
+      arith,
+      plan-length (t .count) (planOf t .kept) (planOf t .discarded) (planMarks t) (planRuns t),
+      line-few planWord (t .count ∷ planOf t .kept ∷ planOf t .discarded ∷ []),
+      drops-length 0 (planMarks t),
+      runs-length (planRuns t),
+      marks-length t (p .legal) (p .none),
+      plan-few t (p .legal) (p .none),
+      legal-count (p .legal),
+    )
+
+-- No text is longer than maxText.
+pub printed-length : (file : List ℕ) → length (printed file) ≤ maxText
+unfolding printed longReply
+printed-length file =
+    let reply = longReply file in
+    cases (eqb (reply .number) 0)
+    (λ e. rw e (plan-text-length file (plan-made file _ (eqb-true (reply .number) 0 e) .made)))
+    (λ e. rw e (refusal-length (reply .number) (reply .place)))
+
+-- What is printed of a refusal.
+pub printed-refused : (file : List ℕ) (reply : Planned) → reply ≡ longReply file → (reply .number ≡ 0 → ⊥) → refusalText (reply .number) (reply .place) ≡ printed file
+unfolding printed
+printed-refused file reply e z = rw (← e, ne-eqb (reply .number) 0 z)
+
+-- What is printed of a plan, from the lists that the plan call wrote.
+module _ (file : List ℕ) (reply : Planned) (old new : LentLists) (r : Replied file reply old new) (zero-is : reply .number ≡ 0) where
+  -- the file has bytes to read the count from
+  pub file-bits : 4 ≤ length file
+  unfolding fileLength bytesFor taskStart
+  file-bits =
+      let p = made file reply old new r zero-is .made in
+      let some : 0 < countIn file = rw (← tableIn-count file) (legal-count (p .legal) .0) in
+      rw (read-length file (p .accepted)) (omega arith)
+
+  -- the plan fits into the lists
+  pub count-fits : tableIn file .count ≤ maxTasks
+  count-fits = legal-count (made file reply old new r zero-is .made .legal) .1
+
+  pub runs-fit : reply .runs ≤ maxPlanRuns
+  runs-fit =
+      let m = made file reply old new r zero-is .made in
+      omega (arith, runs-are file reply old new r zero-is, plan-few (tableIn file) (m .legal) (m .none), count-fits)
+
+  pub text-is : (count : ℕ) → count ≡ tableIn file .count → reply ≡ longReply file
+      → planLines count (reply .kept) (reply .discarded) (take count (new .marks))
+      (runsOf (take (reply .runs) (new .starts)) (take (reply .runs) (new .ends)) (take (reply .runs) (new .tasks)))
+      ≡ printed file
+  unfolding printed planText
+  text-is count e long =
+      let t = tableIn file in
+      let reply-is = made file reply old new r zero-is .reply-is in
+      rw (
+        e,
+        marks-taken file reply old new r zero-is,
+        starts-taken file reply old new r zero-is,
+        ends-taken file reply old new r zero-is,
+        tasks-taken file reply old new r zero-is,
+        columns-runs (planRuns t),
+        ← long,
+        zero-is,
+        reply-is,
+      )
+
+-- the count that is read from the file is that of its table
+pub count-is : (file : List ℕ) (at count : ℕ) → at ≡ 0 → count ≡ field file at 7 → count ≡ tableIn file .count
+unfolding countIn
+count-is file at count z e = e ∙ (rw z (sym (tableIn-count file)))
+
+-- The clauses of print where the list is long enough, from the text that was put.
+pub print-clauses : (file out : List ℕ) (text : List ℕ) (next : ℕ) (new : List ℕ) → maxText ≤ length out → text ≡ printed file → Put text 0 out next new
+    → (next ≡ printLength file (length out)) × (new ≡ printedOver file out)
+unfolding printLength printedOver
+print-clauses file out text next new h e p = rw (le-ltb (length out) maxText h, ← e) (put-front text out next new p)
+
+-- never more bytes than the longest text
+pub print-most : (file : List ℕ) (room next : ℕ) → next ≡ printLength file room → next ≤ maxText
+unfolding printLength
+print-most file room next e = rw e (pick-cases (λ n. n ≤ maxText) (ltb room maxText) (λ q. omega arith) (λ q. printed-length file))
+
+-- what is printed of a file that reading refuses
+printed-unread : (file : List ℕ) → isAccepted (readAnswer file) ≡ false → refusalText (numberOf (readAnswer file)) (placeOf (readAnswer file)) ≡ printed file
+unfolding longReply
+printed-unread file e =
+    printed-refused file (planDeclined (numberOf (readAnswer file)) (placeOf (readAnswer file))) (sym (file-refused file _ e))
+    (eqb-false (numberOf (readAnswer file)) 0 (refused-number (readAnswer file) e))
+
+-- What is printed of a file follows from its first maxFile + 1 bytes, which are 501.
+pub printed-prefix : (file : List ℕ) → printed (take (maxFile + 1) file) ≡ printed file
+printed-prefix file =
+    elim (decLt maxFile (length file)) [
+      | yes h ↦
+          let same = read-prefix file in
+          let bad = long-refused file h in
+          sym (printed-unread (take (maxFile + 1) file) (ap isAccepted same ∙ bad))
+          ∙ (ap₂ refusalText (ap numberOf same) (ap placeOf same) ∙ printed-unread file bad)
+      | no h ↦ ap printed (take-all (maxFile + 1) file (omega arith))
+    ]
+
+-- The text of document 01's example, from its counts, marks and runs.
+abbrev run : ℕ → ℕ → ℕ → Run
+run start end task = record { start = start; end = end; task = task }
+
+pub example-text : planLines 3 2 1 (1 ∷ 0 ∷ 1 ∷ []) (run 2 4 0 ∷ run 4 6 2 ∷ run 6 7 0 ∷ run 7 8 1 ∷ run 8 10 0 ∷ [])
+    ≡ 80 ∷ 76 ∷ 65 ∷ 78 ∷ 32 ∷ 51 ∷ 32 ∷ 50 ∷ 32 ∷ 49 ∷ 10
+    ∷ 68 ∷ 82 ∷ 79 ∷ 80 ∷ 32 ∷ 49 ∷ 10
+    ∷ 82 ∷ 85 ∷ 78 ∷ 32 ∷ 50 ∷ 32 ∷ 52 ∷ 32 ∷ 48 ∷ 10
+    ∷ 82 ∷ 85 ∷ 78 ∷ 32 ∷ 52 ∷ 32 ∷ 54 ∷ 32 ∷ 50 ∷ 10
+    ∷ 82 ∷ 85 ∷ 78 ∷ 32 ∷ 54 ∷ 32 ∷ 55 ∷ 32 ∷ 48 ∷ 10
+    ∷ 82 ∷ 85 ∷ 78 ∷ 32 ∷ 55 ∷ 32 ∷ 56 ∷ 32 ∷ 49 ∷ 10
+    ∷ 82 ∷ 85 ∷ 78 ∷ 32 ∷ 56 ∷ 32 ∷ 49 ∷ 48 ∷ 32 ∷ 48 ∷ 10 ∷ []
+unfolding planLines line fields decimal decimalWithin dropLines dropsFrom runLines runLine
+example-text = refl

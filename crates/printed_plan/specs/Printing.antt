@@ -1,0 +1,108 @@
+-- The printed plan, as the bytes of its text: document 01, 'The printed plan'.
+use Prim.Native.Nat.{ℕ, zero, suc, _+_, _*_, _/_, _%_}
+use mathlib.Core.List.{List, [], _∷_, _++_}
+use lib.Dec.{ltb, eqb}
+use lib.ListN.{length}
+use Rattle.base.specs.Limits.{maxTasks, maxPlanRuns}
+use Rattle.base.specs.Tests.{pick}
+use Rattle.base.specs.Lent.{writtenFront}
+use Rattle.table.specs.declared.Table.{Table}
+use Rattle.table.specs.Reading.{tableIn}
+use Rattle.schedule.specs.declared.Run.{Run}
+use Rattle.plans.specs.declared.Planned.{Planned}
+use Rattle.plans.specs.Planning.{planMarks, planRuns, planOf, listsFor, planReply}
+
+-- the bytes in ASCII: a space, a newline, a digit
+abbrev pub space : ℕ
+space = 32
+
+abbrev pub newline : ℕ
+newline = 10
+
+abbrev pub digit : ℕ → ℕ
+digit d = 48 + d
+
+-- the words PLAN, DROP, RUN and REFUSED
+abbrev pub planWord : List ℕ
+planWord = 80 ∷ 76 ∷ 65 ∷ 78 ∷ []
+
+abbrev pub dropWord : List ℕ
+dropWord = 68 ∷ 82 ∷ 79 ∷ 80 ∷ []
+
+abbrev pub runWord : List ℕ
+runWord = 82 ∷ 85 ∷ 78 ∷ []
+
+abbrev pub refusedWord : List ℕ
+refusedWord = 82 ∷ 69 ∷ 70 ∷ 85 ∷ 83 ∷ 69 ∷ 68 ∷ []
+
+-- a number's decimal digits, most significant first and with no zero in front; at most one more than `more`, the last ones of a longer number
+unfoldable pub decimalWithin : ℕ → ℕ → List ℕ
+decimalWithin zero n = digit (n % 10) ∷ []
+decimalWithin (suc more) n = pick (ltb n 10) (digit n ∷ []) (decimalWithin more (n / 10) ++ digit (n % 10) ∷ [])
+
+-- the decimal digits of a number below 10 ^ 20, and so of every number of 64 bits
+unfoldable pub decimal : ℕ → List ℕ
+decimal n = decimalWithin 19 n
+
+-- the fields of a line: before each number a space
+unfoldable pub fields : List ℕ → List ℕ
+fields [] = []
+fields (n ∷ numbers) = space ∷ decimal n ++ fields numbers
+
+-- a line: a word, its numbers, a newline
+unfoldable pub line : List ℕ → List ℕ → List ℕ
+line word numbers = word ++ fields numbers ++ newline ∷ []
+
+-- a DROP line for each mark 0 of a keep list whose first mark is that of position k; the positions rise
+unfoldable pub dropsFrom : ℕ → List ℕ → List ℕ
+dropsFrom k [] = []
+dropsFrom k (mark ∷ marks) = pick (eqb mark 0) (line dropWord (k ∷ [])) [] ++ dropsFrom (suc k) marks
+
+unfoldable pub dropLines : List ℕ → List ℕ
+dropLines marks = dropsFrom 0 marks
+
+-- the RUN line of a run: start, end, task
+unfoldable pub runLine : Run → List ℕ
+runLine run = line runWord (run .start ∷ run .end ∷ run .task ∷ [])
+
+unfoldable pub runLines : List Run → List ℕ
+runLines [] = []
+runLines (run ∷ runs) = runLine run ++ runLines runs
+
+-- the text of a plan: the PLAN line with tasks, kept, discarded; the DROP lines; the RUN lines
+unfoldable pub planLines : ℕ → ℕ → ℕ → List ℕ → List Run → List ℕ
+planLines tasks kept discarded marks runs = line planWord (tasks ∷ kept ∷ discarded ∷ []) ++ dropLines marks ++ runLines runs
+
+-- the text of a table's plan
+unfoldable pub planText : Table → List ℕ
+planText t = planLines (t .count) (planOf t .kept) (planOf t .discarded) (planMarks t) (planRuns t)
+
+-- the text of a refusal: its number and place
+unfoldable pub refusalText : ℕ → ℕ → List ℕ
+refusalText number place = line refusedWord (number ∷ place ∷ [])
+
+-- the reply of planning into lists that are long enough for every table
+unfoldable pub longReply : List ℕ → Planned
+longReply file = planReply file (listsFor maxTasks)
+
+-- the text printed of a file: its plan or its refusal
+unfoldable pub printed : List ℕ → List ℕ
+printed file =
+    pick (eqb (longReply file .number) 0) (planText (tableIn file))
+    (refusalText (longReply file .number) (longReply file .place))
+
+-- no line is longer: a word of at most 7 bytes, 3 numbers of at most 20 digits, each with a space, and a newline
+abbrev pub maxLine : ℕ
+maxLine = 7 + 3 * 21 + 1
+
+-- no text is longer: the PLAN line, a DROP line for each task and a RUN line for each run
+abbrev pub maxText : ℕ
+maxText = (1 + maxTasks + maxPlanRuns) * maxLine
+
+-- how many bytes are printed of a file into a list of `room` places: none into one that is shorter than the longest text
+unfoldable pub printLength : List ℕ → ℕ → ℕ
+printLength file room = pick (ltb room maxText) 0 (length (printed file))
+
+-- what a lent list holds after that
+unfoldable pub printedOver : List ℕ → List ℕ → List ℕ
+printedOver file out = pick (ltb (length out) maxText) out (writtenFront (printed file) out)

@@ -1,0 +1,155 @@
+-- From the pass over the runs and the totals to the verdict, and from the verdict to the reply.
+use Prim.Native.Nat.{ℕ, _≤_, _<_}
+use mathlib.Core.Path.{_≡_, refl, sym, ap, _∙_}
+use mathlib.Core.Bool.{Bool, true, false, not}
+use mathlib.Core.Logic.{_↔_}
+use mathlib.Core.List.{List, [], _∷_}
+use native.Mathlib.Omega.{arith}
+use lib.Dec.{ltb, eqb}
+use lib.ListN.{length, getD}
+use borrow.Author.Tests.{ltb-true, lt-ltb, le-ltb, eq-eqb, ne-eqb}
+use Rattle.base.specs.Limits.{maxTasks}
+use Rattle.base.specs.Tests.{pick, and}
+use Rattle.base.specs.Lowest.{someBelow}
+use Rattle.base.specs.Places.{places}
+use Rattle.base.proofs.TestLaws.{cases, and-left, and-right}
+use Rattle.base.proofs.LowestLaws as lowest-laws
+use Rattle.base.proofs.PlaceLaws.{places-at}
+use Rattle.table.specs.declared.Table.{Table}
+use Rattle.table.specs.declared.Answer.the-variants.{Accepted}
+use Rattle.table.specs.Answers.{numberOf, placeOf, isAccepted}
+use Rattle.table.specs.Reading.{tableIn, readAnswer}
+use Rattle.schedule.specs.declared.Job.{Job}
+use Rattle.schedule.specs.declared.Judged.{Judged}
+use Rattle.schedule.specs.Jobs.{noJob, jobAt, workOf, counts}
+use Rattle.schedule.specs.Ticks.{countBelow}
+use Rattle.schedule.specs.declared.Run.{Run}
+use Rattle.schedule.specs.Runs.{badColumns, runsOf}
+use Rattle.schedule.specs.Judging.{noneEmpty, followFrom, inOrder, knownTasks, inWindows, totalOf, exactTotals, verdict, keptCount, discardedCount, firstBadMark, judgeDeclined, judgeTable, judged, Acceptable}
+use Rattle.schedule.proofs.TickLaws.{count-same}
+use Rattle.schedule.proofs.JudgeLaws.{judge-sound}
+use Rattle.schedule.specs.Passing.{passes, verdictByPass}
+
+-- tests that agree below n
+some-same : (f g : ℕ → Bool) (n : ℕ) → ((k : ℕ) → k < n → f k ≡ g k) → someBelow f n ≡ someBelow g n
+unfolding someBelow
+some-same f g n h = ap (λ (m : ℕ). ltb m n) (lowest-laws.same f g n h)
+
+-- a run does not pass
+pub pass-fails : (job : ℕ → Job) (n : ℕ) (marks : List ℕ) (runs : List Run) → passes job n 0 runs ≡ false → false ≡ verdictByPass job n marks runs
+unfolding verdictByPass
+pass-fails job n marks runs e = rw e
+
+-- the runs pass, and the totals are looked at
+pub pass-totals : (job : ℕ → Job) (n : ℕ) (marks : List ℕ) (runs : List Run) (totals : List ℕ) → passes job n 0 runs ≡ true → n ≤ maxTasks
+    → ((k : ℕ) → k < maxTasks → getD totals k 0 ≡ totalOf runs k)
+    → not (someBelow (λ k. not (eqb (getD totals k 0) (workOf (job k) (getD marks k 0)))) n) ≡ verdictByPass job n marks runs
+unfolding verdictByPass exactTotals
+pass-totals job n marks runs totals e m h =
+    rw e
+    (ap not
+    (some-same (λ k. not (eqb (getD totals k 0) (workOf (job k) (getD marks k 0)))) (λ k. not (eqb (totalOf runs k) (workOf (job k) (getD marks k 0)))) n
+    (λ k l. ap (λ (x : ℕ). not (eqb x (workOf (job k) (getD marks k 0)))) (h k (omega arith)))))
+
+-- jobs that agree at the positions below n make the same conditions
+windows-same : (f g : ℕ → Job) (n : ℕ) → ((k : ℕ) → k < n → f k ≡ g k) → (runs : List Run) → knownTasks n runs ≡ true → inWindows f runs ≡ inWindows g runs
+unfolding knownTasks inWindows
+windows-same f g n h [] e = refl
+windows-same f g n h (run ∷ runs) e =
+    let task = ltb-true (run .task) n (and-left (ltb (run .task) n) (knownTasks n runs) e) in
+    rw (h (run .task) task, windows-same f g n h runs (and-right (ltb (run .task) n) (knownTasks n runs) e))
+
+exact-same : (f g : ℕ → Job) (n : ℕ) (marks : List ℕ) (runs : List Run) → ((k : ℕ) → k < n → f k ≡ g k) → exactTotals f marks n runs ≡ exactTotals g marks n runs
+unfolding exactTotals
+exact-same f g n marks runs h =
+    ap not
+    (some-same (λ k. not (eqb (totalOf runs k) (workOf (f k) (getD marks k 0)))) (λ k. not (eqb (totalOf runs k) (workOf (g k) (getD marks k 0)))) n
+    (λ k l. ap (λ (job : Job). not (eqb (totalOf runs k) (workOf job (getD marks k 0)))) (h k l)))
+
+regroup : (a b c d e : Bool) → and (and a (and b (and c d))) e ≡ and a (and b (and c (and d e)))
+regroup true true true d e = refl
+regroup true true false d e = refl
+regroup true false c d e = refl
+regroup false b c d e = refl
+
+both : (f g : ℕ → Job) (n : ℕ) (marks : List ℕ) (runs : List Run) → ((k : ℕ) → k < n → f k ≡ g k)
+    → and (knownTasks n runs) (and (inWindows f runs) (exactTotals f marks n runs)) ≡ and (knownTasks n runs) (and (inWindows g runs) (exactTotals g marks n runs))
+both f g n marks runs h =
+    cases (knownTasks n runs)
+    (λ e. rw (windows-same f g n h runs e, exact-same f g n marks runs h))
+    (λ e. rw e)
+
+-- the five conditions are the verdict on the table's own jobs
+pub pass-verdict : (t : Table) (marks : List ℕ) (runs : List Run) (job : ℕ → Job) → ((k : ℕ) → k < t .count → job k ≡ jobAt t k)
+    → verdictByPass job (t .count) marks runs ≡ verdict t marks runs
+unfolding verdictByPass passes verdict inOrder
+pass-verdict t marks runs job h =
+    regroup (noneEmpty runs) (followFrom 0 runs) (knownTasks (t .count) runs) (inWindows job runs) (exactTotals job marks (t .count) runs)
+    ∙ ap (λ (b : Bool). and (noneEmpty runs) (and (followFrom 0 runs) b)) (both job (jobAt t) (t .count) marks runs h)
+
+-- the jobs of a table, as an array holds them
+pub jobs-at : (t : Table) (jobs : List Job) → t .count ≤ maxTasks → jobs ≡ places (λ k. pick (ltb k (t .count)) (jobAt t k) noJob) maxTasks
+    → (k : ℕ) → k < t .count → getD jobs k noJob ≡ jobAt t k
+jobs-at t jobs m e k l =
+    rw (e, places-at (λ k. pick (ltb k (t .count)) (jobAt t k) noJob) maxTasks k noJob (omega arith), lt-ltb k (t .count) l)
+
+-- the counts over such an array are those of the table
+pub kept-same : (t : Table) (marks : List ℕ) (job : ℕ → Job) → ((k : ℕ) → k < t .count → job k ≡ jobAt t k)
+    → countBelow (λ k. and (counts (job k)) (eqb (getD marks k 0) 1)) (t .count) ≡ keptCount t marks
+unfolding keptCount
+kept-same t marks job h =
+    count-same (λ k. and (counts (job k)) (eqb (getD marks k 0) 1)) (λ k. and (counts (jobAt t k)) (eqb (getD marks k 0) 1)) (t .count)
+    (λ k l. ap (λ (j : Job). and (counts j) (eqb (getD marks k 0) 1)) (h k l))
+
+pub discarded-same : (t : Table) (marks : List ℕ) (job : ℕ → Job) → ((k : ℕ) → k < t .count → job k ≡ jobAt t k)
+    → countBelow (λ k. and (counts (job k)) (eqb (getD marks k 0) 0)) (t .count) ≡ discardedCount t marks
+unfolding discardedCount
+discarded-same t marks job h =
+    count-same (λ k. and (counts (job k)) (eqb (getD marks k 0) 0)) (λ k. and (counts (jobAt t k)) (eqb (getD marks k 0) 0)) (t .count)
+    (λ k l. ap (λ (j : Job). and (counts j) (eqb (getD marks k 0) 0)) (h k l))
+
+-- the reply, test by test, in the order of the refusals
+module _ (t : Table) (marks starts ends tasks : List ℕ) where
+  pub length-refused : (length marks ≡ t .count → ⊥) → judgeDeclined 11 (t .count) ≡ judgeTable t marks starts ends tasks
+  unfolding judgeTable
+  length-refused e = rw (ne-eqb (length marks) (t .count) e)
+
+  module _ (long : length marks ≡ t .count) where
+    pub mark-refused : firstBadMark marks (t .count) < t .count → judgeDeclined 11 (firstBadMark marks (t .count)) ≡ judgeTable t marks starts ends tasks
+    unfolding judgeTable
+    mark-refused l = rw (eq-eqb (length marks) (t .count) long, lt-ltb (firstBadMark marks (t .count)) (t .count) l)
+
+    module _ (good : t .count ≤ firstBadMark marks (t .count)) where
+      pub columns-refused : badColumns starts ends tasks ≡ true → judgeDeclined 13 0 ≡ judgeTable t marks starts ends tasks
+      unfolding judgeTable
+      columns-refused e = rw (eq-eqb (length marks) (t .count) long, le-ltb (firstBadMark marks (t .count)) (t .count) good, e)
+
+      module _ (columns : badColumns starts ends tasks ≡ false) where
+        pub says-yes : verdict t marks (runsOf starts ends tasks) ≡ true
+            → _≡_ {A = Judged} (record { number = 0; place = 0; yes = true; kept = keptCount t marks; discarded = discardedCount t marks }) (judgeTable t marks starts ends tasks)
+        unfolding judgeTable
+        says-yes e = rw (eq-eqb (length marks) (t .count) long, le-ltb (firstBadMark marks (t .count)) (t .count) good, columns, e)
+
+        pub says-no : verdict t marks (runsOf starts ends tasks) ≡ false
+            → _≡_ {A = Judged} (record { number = 0; place = 0; yes = false; kept = 0; discarded = 0 }) (judgeTable t marks starts ends tasks)
+        unfolding judgeTable
+        says-no e = rw (eq-eqb (length marks) (t .count) long, le-ltb (firstBadMark marks (t .count)) (t .count) good, columns, e)
+
+-- a refusal of reading is the judge's
+pub read-refused : (file marks starts ends tasks : List ℕ) → isAccepted (readAnswer file) ≡ false
+    → judgeDeclined (numberOf (readAnswer file)) (placeOf (readAnswer file)) ≡ judged file marks starts ends tasks
+unfolding judged
+read-refused file marks starts ends tasks e = rw e
+
+-- on an accepted file the judge replies as on its table
+pub read-accepted : (file marks starts ends tasks : List ℕ) → readAnswer file ≡ Accepted
+    → judgeTable (tableIn file) marks starts ends tasks ≡ judged file marks starts ends tasks
+unfolding judged
+read-accepted file marks starts ends tasks e = rw e
+
+-- a reply that is the judge's is sound
+pub sound-of : (file marks starts ends tasks : List ℕ) (r : Judged) → r ≡ judged file marks starts ends tasks
+    → r .number ≡ 0 → (r .yes ≡ true) ↔ Acceptable file marks (runsOf starts ends tasks)
+sound-of file marks starts ends tasks r e z =
+    let law = judge-sound file marks starts ends tasks (ap (λ (j : Judged). j .number) (sym e) ∙ z) in
+    (λ y. law .0 (ap (λ (j : Judged). j .yes) (sym e) ∙ y), λ f. ap (λ (j : Judged). j .yes) e ∙ law .1 f)
