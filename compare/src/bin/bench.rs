@@ -178,7 +178,7 @@ fn main() {
     let file = inputs::pack(&full);
     let small = inputs::pack(&tight(3));
     let (mut a, mut b) = (vec![0xaa; 500], vec![0xaa; 500]);
-    for (name, file) in [("read 64 tasks, 500 bytes", &file), ("read 3 tasks, 28 bytes", &small)] {
+    for (name, target, file) in [("read 64 tasks, 500 bytes", 2.0, &file), ("read 3 tasks, 28 bytes", 1.3, &small)] {
         let times = both(
             || {
                 black_box(ffi::read(black_box(file)));
@@ -187,7 +187,7 @@ fn main() {
                 let _ = black_box(reference::read(black_box(file)));
             },
         );
-        line(name, 2.0, times);
+        line(name, target, times);
     }
     let times = both(
         || {
@@ -197,7 +197,7 @@ fn main() {
             let _ = black_box(reference::write(black_box(&full), &mut b));
         },
     );
-    line("write 64 tasks, 500 bytes", 2.0, times);
+    line("write 64 tasks, 500 bytes", 1.2, times);
     let times = both(
         || {
             black_box(ffi::shift(black_box(&file), 5, &mut a));
@@ -206,7 +206,7 @@ fn main() {
             let _ = black_box(reference::shift(black_box(&file), 5, &mut b));
         },
     );
-    line("shift 64 tasks, 500 bytes", 2.0, times);
+    line("shift 64 tasks, 500 bytes", 1.2, times);
 
     let (_, marks, columns) = planned(&most_runs(64));
     judge("judge 64 tasks, 127 runs", &inputs::pack(&most_runs(64)), &marks, &columns);

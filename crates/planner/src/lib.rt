@@ -162,8 +162,10 @@ pub fn plan(
     ensures lists_after { λ r. ⌜ lent (now (marks .exit)) (now (starts .exit)) (now (ends .exit)) (now (tasks .exit))
         ≡ listsAfter (tableIn (now (file .entry))) r (lent (now (marks .entry)) (now (starts .entry)) (now (ends .entry)) (now (tasks .entry))) ⌝ }
     ensures demand_2_refusal { λ r. ⌜ EightExactly (now (file .entry)) r ⌝ }
-    ensures demand_2_judge { λ r. ⌜ JudgeAccepts (now (file .entry)) r (lent (now (marks .exit)) (now (starts .exit)) (now (ends .exit)) (now (tasks .exit))) ⌝ }
-    ensures demand_3 { λ r. ⌜ PlannedOptimal (now (file .entry)) r (lent (now (marks .exit)) (now (starts .exit)) (now (ends .exit)) (now (tasks .exit))) ⌝ }
+    ensures demand_2_judge { λ r. ⌜ JudgeAccepts (now (file .entry)) r
+        (lent (now (marks .exit)) (now (starts .exit)) (now (ends .exit)) (now (tasks .exit))) ⌝ }
+    ensures demand_3 { λ r. ⌜ PlannedOptimal (now (file .entry)) r
+        (lent (now (marks .exit)) (now (starts .exit)) (now (ends .exit)) (now (tasks .exit))) ⌝ }
 {
     let read = reading::read(file);
     let answer = read.answer;

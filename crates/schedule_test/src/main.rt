@@ -2,8 +2,8 @@
 // `#` is a comment.
 //
 // A line of judging has the table file, the keep list in bytes, and the run columns: starts, ends, tasks. A line of counting has the run columns, the
-// interval's first tick, and the tick behind its last. What is printed is the case's title, and the number and place of the answer; then of judging the verdict and the counts kept
-// and discarded, and of counting the sum.
+// interval's first tick, and the tick behind its last. What is printed is the case's title, and the number and place of the answer; then of judging
+// the verdict and the counts kept and discarded, and of counting the sum.
 use base::MAX_RUNS;
 use libc::STDIN_FILENO;
 use schedule::Busy;
