@@ -32,31 +32,86 @@ field-piece s a w byte h =
     rw whole (ap (λ x. field s x w) split ∙ sym (low (field s (8 * i) j) w (field-lt s (8 * i + j) w)))
 
 -- A field that lies within a wider one, v bits behind its start and x bits before its end.
-field-within : (s : List ℕ) (a v w x : ℕ) → field s (a + v) w ≡ field s a (v + w + x) / 2 ^ x % 2 ^ w
+pub field-within : (s : List ℕ) (a v w x : ℕ) → field s (a + v) w ≡ field s a (v + w + x) / 2 ^ x % 2 ^ w
 field-within s a v w x =
     let front : field s a (v + w + x) / 2 ^ x ≡ field s a v * 2 ^ w + field s (a + v) w =
     rw (field-add s a (v + w) x, high (field s a (v + w)) x (field-lt s (a + (v + w)) x)) (field-add s a v w) in
     rw front (sym (low (field s a v) w (field-lt s (a + v) w)))
 
--- Two fields of w bits, one behind the other, joined as it is computed, are one field.
-pub field-join : (s : List ℕ) (a b w : ℕ) → w ≤ 16 → a + w ≡ b → (field s a w * 2 ^ w) % 4294967296 + field s b w ≡ field s a (w + w)
-field-join s a b w h e = rw (shl-exact w w 32 (field-lt s a w) (omega arith), ← e) (sym (field-add s a w w))
+-- Two fields, one behind the other, each shifted up to its place, are one field shifted up.
+pub field-places : (s : List ℕ) (a b v w u : ℕ) → a + v ≡ b → field s a v * 2 ^ (w + u) + field s b w * 2 ^ u ≡ field s a (v + w) * 2 ^ u
+field-places s a b v w u e = rw (← e, field-add s a v w, pow-add 2 w u) (omega arith)
 
--- Two bytes joined so are a field of 16 bits.
-pub two-bytes : (s : List ℕ) (k : ℕ) → getD s k 0 < 256 → getD s (k + 1) 0 < 256 → (getD s k 0 * 2 ^ 8) % 4294967296 + getD s (k + 1) 0 ≡ field s (8 * k) 16
-two-bytes s k l m = rw (← byte-whole s k l, ← byte-whole s (k + 1) m) (field-join s (8 * k) (8 * (k + 1)) 8 (omega arith) (omega arith))
+-- A field shifted up fits 64 bits where its place does.
+pub field-up-lt : (s : List ℕ) (a w u : ℕ) → w + u ≤ 64 → field s a w * 2 ^ u < 18446744073709551616
+field-up-lt s a w u h = omega (arith, shl-lt w u (field-lt s a w), pow-mono {i = w + u} {j = 64} h)
 
--- A field within the 32 bits from byte k on.
-pub field-inside : (s : List ℕ) (k at w : ℕ) → 8 * k ≤ at → at + w ≤ 8 * k + 32 → field s at w ≡ field s (8 * k) 32 / 2 ^ (32 - (at - 8 * k) - w) % 2 ^ w
-field-inside s k at w l h =
+-- Two bytes, each shifted up to its place as it is computed, are a field of 16 bits shifted up.
+pub two-bytes : (s : List ℕ) (k u : ℕ) → u ≤ 48 → getD s k 0 < 256 → getD s (k + 1) 0 < 256
+    → (getD s k 0 * 2 ^ (8 + u)) % 18446744073709551616 + (getD s (k + 1) 0 * 2 ^ u) % 18446744073709551616 ≡ field s (8 * k) 16 * 2 ^ u
+two-bytes s k u h l m =
+    rw (
+      ← byte-whole s k l,
+      ← byte-whole s (k + 1) m,
+      shl-exact 8 (8 + u) 64 (field-lt s (8 * k) 8) (omega arith),
+      shl-exact 8 u 64 (field-lt s (8 * (k + 1)) 8) (omega arith),
+    ) (field-places s (8 * k) (8 * (k + 1)) 8 8 u (omega arith))
+
+-- A number of 64 bits, A then B, shifted up by as many bits as A has: A is lost.
+shifted-up : (A B v r : ℕ) → B < 2 ^ r → v + r ≡ 64 → ((A * 2 ^ r + B) * 2 ^ v) % 18446744073709551616 ≡ B * 2 ^ v
+shifted-up A B v r fits whole =
+    let power : 2 ^ r * 2 ^ v ≡ 2 ^ 64 = sym (pow-add 2 r v) ∙ ap (λ x. 2 ^ x) (add-comm r v ∙ whole) in
+    let split : (A * 2 ^ r + B) * 2 ^ v ≡ A * 2 ^ 64 + B * 2 ^ v = omega (arith, ap (λ x. A * x) power) in
+    let small : B * 2 ^ v < 2 ^ 64 = rw (add-comm r v ∙ whole) at (shl-lt r v fits) in
+    rw split (low A 64 small)
+
+-- The 64 bits from bit a on, shifted up by v bits: those from bit a + v on are left.
+bits-up : (s : List ℕ) (a v r : ℕ) → v + r ≡ 64 → (field s a 64 * 2 ^ v) % 18446744073709551616 ≡ field s (a + v) r * 2 ^ v
+bits-up s a v r whole =
+    ap (λ x. (x * 2 ^ v) % 18446744073709551616) (ap (field s a) (sym whole) ∙ field-add s a v r)
+    ∙ shifted-up (field s a v) (field s (a + v) r) v r (field-lt s (a + v) r) whole
+
+-- A field within the 64 bits from bit a on: they are shifted up to its first bit and down to its last.
+pub field-shifted : (s : List ℕ) (a v w : ℕ) → v + w ≤ 64 → (field s a 64 * 2 ^ v) % 18446744073709551616 / 2 ^ (64 - w) ≡ field s (a + v) w
+field-shifted s a v w h =
+    let x : ℕ = 64 - v - w in
+    let rest : field s (a + v) (w + x) * 2 ^ v ≡ field s (a + v) w * 2 ^ (x + v) + field s (a + v + w) x * 2 ^ v =
+    rw (field-add s (a + v) w x, pow-add 2 x v) (omega arith) in
+    let down : 64 - w ≡ x + v = omega arith in
+    rw (bits-up s a v (w + x) (omega arith), rest, down) (high (field s (a + v) w) (x + v) (shl-lt x v (field-lt s (a + v + w) x)))
+
+-- The front of a field that ends y bits behind them, with as many zeros behind it.
+pub field-front : (s : List ℕ) (a v w y : ℕ) → v + w ≡ 64 + y → v ≤ 64 → w ≤ 64
+    → (field s a 64 * 2 ^ v) % 18446744073709551616 / 2 ^ (64 - w) ≡ field s (a + v) (64 - v) * 2 ^ y
+field-front s a v w y e h few =
+    let up : v ≡ y + (64 - w) = omega arith in
+    let power : field s (a + v) (64 - v) * 2 ^ v ≡ field s (a + v) (64 - v) * 2 ^ y * 2 ^ (64 - w) =
+    ap (λ x. field s (a + v) (64 - v) * x) (ap (λ x. 2 ^ x) up ∙ pow-add 2 y (64 - w)) ∙ omega arith in
+    rw (bits-up s a v (64 - v) (omega arith), power) (shl-shr (field s (a + v) (64 - v) * 2 ^ y) (64 - w))
+
+-- A field within the eight bytes from byte k on, as it is computed from them.
+pub eight-hold : (s : List ℕ) (k at w : ℕ) → 8 * k ≤ at → at - 8 * k + w ≤ 64
+    → (field s (8 * k) 64 * 2 ^ (at - 8 * k)) % 18446744073709551616 / 2 ^ (64 - w) ≡ field s at w
+eight-hold s k at w l h =
+    let here : 8 * k + (at - 8 * k) ≡ at = omega arith in
+    field-shifted s (8 * k) (at - 8 * k) w h ∙ ap (λ x. field s x w) here
+
+-- A field that starts in the first of them and reaches into the ninth, as it is computed from all nine.
+pub nine-hold : (s : List ℕ) (k at w : ℕ) → getD s (k + 8) 0 < 256 → 8 * k ≤ at → at < 8 * k + 8 → w ≤ 64 → 64 < at - 8 * k + w
+    → (field s (8 * k) 64 * 2 ^ (at - 8 * k)) % 18446744073709551616 / 2 ^ (64 - w) + getD s (k + 8) 0 / 2 ^ (72 - (at - 8 * k + w)) ≡ field s at w
+nine-hold s k at w byte l first few over =
     let v : ℕ = at - 8 * k in
-    let whole : v + w + (32 - v - w) ≡ 32 = omega arith in
-    let split : at ≡ 8 * k + v = omega arith in
-    ap (λ x. field s x w) split ∙ rw whole at (field-within s (8 * k) v w (32 - v - w))
+    let y : ℕ = v + w - 64 in
+    let here : 8 * k + v ≡ at = omega arith in
+    let behind : 72 - (v + w) ≡ 8 - y = omega arith in
+    let ninth : 8 * (k + 8) ≡ at + (64 - v) = omega arith in
+    let whole : 64 - v + y ≡ w = omega arith in
+    rw (field-front s (8 * k) v w y (omega arith) (omega arith) few, here, behind, ← byte-prefix s (k + 8) y byte (omega arith), ninth)
+    (sym (field-add s at (64 - v) y) ∙ ap (field s at) whole)
 
--- A field of at most 32 bits fits 32 bits.
-pub field-small : (s : List ℕ) (a w : ℕ) → w ≤ 32 → field s a w < 4294967296
-field-small s a w h = omega (arith, field-lt s a w, pow-mono {i = w} {j = 32} h)
+-- A field of at most 64 bits fits 64 bits.
+pub field-small : (s : List ℕ) (a w : ℕ) → w ≤ 64 → field s a w < 18446744073709551616
+field-small s a w h = omega (arith, field-lt s a w, pow-mono {i = w} {j = 64} h)
 
 -- The bits of a value: those of its high part, then those of its low part.
 pub bitsOf-add : (a b v : ℕ) → bitsOf (a + b) v ≡ bitsOf a (v / 2 ^ b) ++ bitsOf b v

@@ -1,26 +1,32 @@
-// Bit-packed fields: a cursor that reads or writes one field after another, each starting at the bit where the last ended.
+// Bit-packed rows of fields: a cursor that reads or writes one row after another, and a row that gives one field after another, each starting at the
+// bit where the last ended.
 ghost use mathlib.Core.Path.{_≡_};
 ghost use Prim.Native.Nat.{_+_, _-_, _*_, _/_, _%_, _^_, _≤_, _<_, min};
 ghost use lib.ListN.{length};
 ghost use Rattle.bits.specs.Bits.{field, bitsOf};
 ghost use Rattle.bits.specs.PutBits.{putBits};
 
-// The bit at which the next field starts.
+// The bit of a file at which the next row of fields starts.
 pub struct Cursor {
     pub at: usize,
 }
 
-// A field that was read, and the cursor moved on to the bit after it.
-pub struct Taken {
-    pub value: u32,
+// The bits of a row as a number, and how many of them, at its end, are not taken yet: the next field starts there.
+pub struct Row {
+    pub bits: u64,
+    pub left: usize,
+}
+
+// A row that was read, and the cursor moved on to the bit after it.
+pub struct TakenRow {
+    pub row: Row,
     pub next: Cursor,
 }
 
-// A byte as a wider number.
-fn wide(byte: u8) -> u32
-    ensures { λ r. ⌜ r ≡ byte ⌝ }
-{
-    byte as u32
+// A field that was read, and the row moved on to the bit after it.
+pub struct Taken {
+    pub value: u32,
+    pub next: Row,
 }
 
 // A byte as a number of 64 bits.
@@ -42,13 +48,13 @@ fn piece_width(at: usize, left: usize) -> usize
 }
 
 // The field of `width` bits at bit `at`, all within one byte.
-pub fn piece(file: &[u8], at: usize, width: u32) -> u32
+pub fn piece(file: &[u8], at: usize, width: u32) -> u64
     requires { ⌜ at < 8 * length (now file) ⌝ }
     requires { ⌜ (1 ≤ width) × (at % 8 + width ≤ 8) ⌝ }
     ensures { λ r. ⌜ r ≡ field (now (file .entry)) at width ⌝ }
 {
     let behind = 8 - (at % 8) as u32 - width;
-    (wide(file[at / 8]) >> behind) % (1 << width)
+    (long(file[at / 8]) >> behind) % (1 << width)
 }
 
 // The `width` low bits of `bits` put at bit `at`, all within one byte: the earlier bits of the byte stay, and the later ones are zero.
@@ -92,83 +98,84 @@ pub fn join(high: u64, width: usize, low: u32) -> u64
     (high << by) + low as u64 % (1 << by)
 }
 
-// The two bytes from byte `k` on, as one number.
-fn two(file: &[u8], k: usize) -> u32
+// The two bytes from byte `k` on as one number, shifted up.
+fn two(file: &[u8], k: usize, up: u32) -> u64
     requires { ⌜ k + 1 < length (now file) ⌝ }
-    ensures { λ r. ⌜ r ≡ field (now (file .entry)) (8 * k) 16 ⌝ }
+    requires { ⌜ up ≤ 48 ⌝ }
+    ensures { λ r. ⌜ r ≡ field (now (file .entry)) (8 * k) 16 * 2 ^ up ⌝ }
 {
-    (wide(file[k]) << 8) + wide(file[k + 1])
+    (long(file[k]) << (8 + up)) + (long(file[k + 1]) << up)
 }
 
-// The four bytes from byte `k` on, as one number.
-fn four(file: &[u8], k: usize) -> u32
+// The four bytes from byte `k` on as one number, shifted up.
+fn four(file: &[u8], k: usize, up: u32) -> u64
     requires { ⌜ k + 3 < length (now file) ⌝ }
-    ensures { λ r. ⌜ r ≡ field (now (file .entry)) (8 * k) 32 ⌝ }
+    requires { ⌜ up ≤ 32 ⌝ }
+    ensures { λ r. ⌜ r ≡ field (now (file .entry)) (8 * k) 32 * 2 ^ up ⌝ }
 {
-    (two(file, k) << 16) + two(file, k + 2)
+    two(file, k, 16 + up) + two(file, k + 2, up)
 }
 
-// The field of `width` bits at bit `at`, all within the four bytes from byte `k` on.
-fn field_of_four(file: &[u8], k: usize, at: usize, width: u32) -> u32
-    requires { ⌜ (1 ≤ width) × (width ≤ 24) ⌝ }
-    requires { ⌜ k + 3 < length (now file) ⌝ }
-    requires { ⌜ (8 * k ≤ at) × (at + width ≤ 8 * k + 32) ⌝ }
-    ensures { λ r. ⌜ r ≡ field (now (file .entry)) at width ⌝ }
+// The eight bytes from byte `k` on as one number. Each byte is shifted once, to its place, which the compiler knows as the loading of one number.
+fn eight(file: &[u8], k: usize) -> u64
+    requires { ⌜ k + 7 < length (now file) ⌝ }
+    ensures { λ r. ⌜ r ≡ field (now (file .entry)) (8 * k) 64 ⌝ }
 {
-    let behind = 32 - (at - 8 * k) as u32 - width;
-    (four(file, k) >> behind) % (1 << width)
+    four(file, k, 32) + four(file, k + 4, 0)
 }
 
-// The field of `width` bits at bit `at`, at once: out of the four bytes from its first on, or out of the file's last four.
-fn quad(file: &[u8], at: usize, width: u32) -> u32
-    requires { ⌜ (1 ≤ width) × (width ≤ 24) ⌝ }
-    requires { ⌜ 4 ≤ length (now file) ⌝ }
-    requires { ⌜ at + width ≤ 8 * length (now file) ⌝ }
-    ensures { λ r. ⌜ r ≡ field (now (file .entry)) at width ⌝ }
+// The first of the eight bytes that hold the front of a field at bit `at`: the field's own first byte, or the first of the last eight.
+fn eight_from(at: usize, length: usize) -> usize
+    requires { ⌜ 8 ≤ length ⌝ }
+    ensures { λ r. ⌜ r ≡ min (at / 8) (length - 8) ⌝ }
 {
-    let k = at / 8;
-    if file.len() < k + 4 {
-        return field_of_four(file, file.len() - 4, at, width);
+    let last = length - 8;
+    if last < at / 8 {
+        return last;
     }
-    field_of_four(file, k, at, width)
+    at / 8
 }
 
-// The field of `width` bits at bit `start`, piece by piece, each within one byte.
-fn pieces(file: &[u8], start: usize, width: usize) -> u32
-    requires { ⌜ width ≤ 32 ⌝ }
-    requires { ⌜ start + width ≤ 8 * length (now file) ⌝ }
-    requires { ⌜ start + width < 2 ^ 64 ⌝ }
-    ensures { λ r. ⌜ r ≡ field (now (file .entry)) start width ⌝ }
-{
-    let mut value: u32 = 0;
-    let mut at = start;
-    let mut left = width;
-    while 0 < left {
-        let count = piece_width(at, left);
-        value = (value << count as u32) + piece(file, at, count as u32);
-        at += count;
-        left -= count;
-    }
-    value
-}
-
-// The field of `width` bits at bit `at`: at once where four bytes hold any such field, and else piece by piece.
-fn field_at(file: &[u8], at: usize, width: usize) -> u32
-    requires { ⌜ width ≤ 32 ⌝ }
+// The field of `width` bits at bit `at`: out of eight bytes, and of the byte behind them where it reaches that far.
+fn field_at(file: &[u8], at: usize, width: usize) -> u64
+    requires { ⌜ 8 ≤ length (now file) ⌝ }
+    requires { ⌜ (1 ≤ width) × (width ≤ 64) ⌝ }
     requires { ⌜ at + width ≤ 8 * length (now file) ⌝ }
     requires { ⌜ at + width < 2 ^ 64 ⌝ }
     ensures { λ r. ⌜ r ≡ field (now (file .entry)) at width ⌝ }
 {
-    if width == 0 {
-        return 0;
+    let k = eight_from(at, file.len());
+    let skipped = at - 8 * k;
+    let front = (eight(file, k) << skipped as u32) >> (64 - width) as u32;
+    let end = skipped + width;
+    if end <= 64 {
+        return front;
     }
-    if 24 < width {
-        return pieces(file, at, width);
+    front + (long(file[k + 8]) >> (72 - end) as u32)
+}
+
+impl Row {
+    // The first four bytes of a file as a row.
+    pub fn first(file: &[u8]) -> Row
+        requires { ⌜ 4 ≤ length (now file) ⌝ }
+        ensures { λ r. ⌜ (r .bits ≡ field (now (file .entry)) 0 32) × (r .left ≡ 32) ⌝ }
+    {
+        let bits = four(file, 0, 0);
+        Row { bits, left: 32 }
     }
-    if file.len() < 4 {
-        return pieces(file, at, width);
+
+    // The field of `width` bits where the row stands, and the row behind it.
+    pub fn take(self, width: usize) -> Taken
+        requires { ⌜ (1 ≤ width) × (width ≤ 32) ⌝ }
+        requires { ⌜ (width ≤ self .left) × (self .left ≤ 64) ⌝ }
+        ensures { λ r. ⌜ (r .value ≡ self .bits / 2 ^ (self .left - width) % 2 ^ width) × (r .next .bits ≡ self .bits) × (r .next .left ≡ self .left - width) ⌝ }
+    {
+        let bits = self.bits;
+        let left = self.left - width;
+        let value = ((bits >> left as u32) % (1 << width as u32)) as u32;
+        let next = Row { bits, left };
+        Taken { value, next }
     }
-    quad(file, at, width as u32)
 }
 
 impl Cursor {
@@ -179,17 +186,19 @@ impl Cursor {
         Cursor { at: 0 }
     }
 
-    // The field of `width` bits at the cursor, and the cursor behind it.
-    pub fn take(self, file: &[u8], width: usize) -> Taken
-        requires { ⌜ width ≤ 32 ⌝ }
+    // The row of `width` bits at the cursor, and the cursor behind it.
+    pub fn take(self, file: &[u8], width: usize) -> TakenRow
+        requires { ⌜ 8 ≤ length (now file) ⌝ }
+        requires { ⌜ (1 ≤ width) × (width ≤ 64) ⌝ }
         requires { ⌜ self .at + width ≤ 8 * length (now file) ⌝ }
         requires { ⌜ self .at + width < 2 ^ 64 ⌝ }
-        ensures { λ r. ⌜ (r .value ≡ field (now (file .entry)) (self .at) width) × (r .next .at ≡ self .at + width) ⌝ }
+        ensures { λ r. ⌜ (r .row .bits ≡ field (now (file .entry)) (self .at) width) × (r .row .left ≡ width) × (r .next .at ≡ self .at + width) ⌝ }
     {
         let start = self.at;
+        let bits = field_at(file, start, width);
+        let row = Row { bits, left: width };
         let next = Cursor { at: start + width };
-        let value = field_at(file, start, width);
-        Taken { value, next }
+        TakenRow { row, next }
     }
 
     // The `width` bits of `value` put at the cursor, and the cursor behind them.

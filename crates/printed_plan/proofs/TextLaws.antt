@@ -11,7 +11,7 @@ use lib.Seq.{take-all}
 use borrow.Author.Tests.{eqb-true, eqb-false, ne-eqb, le-ltb}
 use Rattle.base.specs.Limits.{maxTasks, maxPlanRuns}
 use Rattle.base.proofs.TestLaws.{cases, pick-cases}
-use Rattle.bits.specs.Bits.{field, bytesFor}
+use Rattle.bits.specs.Bits.{bytesFor}
 use Rattle.table.specs.Layout.{taskStart, fileLength, maxFile}
 use Rattle.table.specs.Answers.{numberOf, placeOf, isAccepted}
 use Rattle.table.specs.Reading.{countIn, tableIn, readAnswer}
@@ -133,11 +133,6 @@ module _ (file : List ℕ) (reply : Planned) (old new : LentLists) (r : Replied 
         zero-is,
         reply-is,
       )
-
--- the count that is read from the file is that of its table
-pub count-is : (file : List ℕ) (at count : ℕ) → at ≡ 0 → count ≡ field file at 7 → count ≡ tableIn file .count
-unfolding countIn
-count-is file at count z e = e ∙ (rw z (sym (tableIn-count file)))
 
 -- The clauses of print where the list is long enough, from the text that was put.
 pub print-clauses : (file out : List ℕ) (text : List ℕ) (next : ℕ) (new : List ℕ) → maxText ≤ length out → text ≡ printed file → Put text 0 out next new

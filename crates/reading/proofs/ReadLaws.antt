@@ -11,15 +11,20 @@ use lib.Seq.{getD-set-same, getD-set-other, getD-take, getD-drop}
 use Rattle.base.specs.Limits.{maxTasks}
 use Rattle.base.specs.Tests.{pick}
 use Rattle.base.specs.Places.{places}
+use Rattle.bits.specs.Bits.{bytesFor}
 use Rattle.table.specs.declared.Task.{Task}
 use Rattle.table.specs.declared.Table.{Table}
 use Rattle.table.specs.declared.Reading.{Reading}
 use Rattle.table.specs.declared.Answer.the-variants.{Accepted}
 use Rattle.table.specs.Tables.{noTask, noTable, taskAt, tableOf}
 use Rattle.table.specs.Answers.{isAccepted}
+use Rattle.table.specs.Layout.{headerWidth, taskStart}
 use Rattle.table.specs.Windows.{windowAnswer}
 use Rattle.table.specs.WindowColumns.{columnsAnswer}
 use Rattle.reading.specs.Frames.{FramesIn}
+use Rattle.table.proofs.AnswerLaws.{firstRefusal-known}
+use Rattle.table.proofs.FileLaws.{count-known}
+use Rattle.table.proofs.RoundTrip.{head-known}
 use Rattle.table.proofs.TableLaws.{taskAt-below}
 use Rattle.table.proofs.WindowLaws.{answer-columns}
 use Rattle.table.specs.Reading.{countIn, pIn, qIn, taskIn, tableIn, headAnswer, readAnswer, reading}
@@ -60,18 +65,43 @@ windows-taken s count frames few c held =
       getD-drop maxTasks frames k 0 ∙ (held k l .1 ∙ ap (λ (task : Task). task .deadline) same),
     ))
 
+-- a header that is accepted has a count in range, and the file the bits of its tasks
+pub head-few : (s : List ℕ) → headAnswer s ≡ Accepted → (countIn s ≤ maxTasks) × (taskStart (countIn s) ≤ 8 * length s)
+unfolding taskStart bytesFor
+head-few s e =
+    let facts = head-known s e in
+    (count-known (countIn s) (facts .counted) .1, omega arith)
+
+-- a header that is refused gives the answer
+pub head-refused : (s : List ℕ) → isAccepted (headAnswer s) ≡ false → headAnswer s ≡ readAnswer s
+unfolding readAnswer
+head-refused s e = rw e
+
+-- and past it the windows do
+pub head-accepted : (s : List ℕ) → headAnswer s ≡ Accepted → windowAnswer (tableIn s) ≡ readAnswer s
+unfolding readAnswer
+head-accepted s e = rw e
+
+-- an accepted file has an accepted header
+pub read-head : (s : List ℕ) → readAnswer s ≡ Accepted → headAnswer s ≡ Accepted
+unfolding readAnswer
+read-head s e = firstRefusal-known (headAnswer s) (windowAnswer (tableIn s)) e .0
+
+-- so it has the bits of a header
+pub read-bits : (s : List ℕ) → readAnswer s ≡ Accepted → headerWidth ≤ 8 * length s
+unfolding taskStart
+read-bits s e = omega (arith, head-few s (read-head s e) .1)
+
+-- the table of the reply, on a refusal and on none
+pub table-refused : (s : List ℕ) → isAccepted (readAnswer s) ≡ false → noTable ≡ reading s .table
+unfolding reading
+table-refused s e = rw e
+
+pub table-accepted : (s : List ℕ) → readAnswer s ≡ Accepted → tableIn s ≡ reading s .table
+unfolding reading
+table-accepted s e = rw e
+
 -- a reply is known by its answer and its table
-reply-is : (r : Reading) (s : List ℕ) → r .answer ≡ readAnswer s → r .table ≡ pick (isAccepted (readAnswer s)) (tableIn s) noTable → r ≡ reading s
+pub reply-is : (r : Reading) (s : List ℕ) → r .answer ≡ readAnswer s → r .table ≡ reading s .table → r ≡ reading s
 unfolding reading
 reply-is r s a t = λ i. record { answer = a i; table = t i }
-
--- the header is refused
-pub refused-head : (r : Reading) (s : List ℕ) → isAccepted (headAnswer s) ≡ false → r .answer ≡ headAnswer s → r .table ≡ noTable → r ≡ reading s
-unfolding readAnswer
-refused-head r s e a t = reply-is r s (rw e a) (rw (e, e) t)
-
--- the windows are refused
-pub refused-windows : (r : Reading) (s : List ℕ) → headAnswer s ≡ Accepted → isAccepted (windowAnswer (tableIn s)) ≡ false
-    → r .answer ≡ windowAnswer (tableIn s) → r .table ≡ noTable → r ≡ reading s
-unfolding readAnswer
-refused-windows r s h e a t = reply-is r s (rw h a) (rw (h, e) t)

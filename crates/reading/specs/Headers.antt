@@ -2,10 +2,9 @@
 use Prim.Native.Nat.{ℕ}
 use mathlib.Core.Path.{_≡_}
 use mathlib.Core.List.{List}
-use Rattle.table.specs.Layout.{headerWidth}
 use Rattle.table.specs.Reading.{countIn, pIn, qIn}
 use Rattle.reading.specs.declared.Header.{Header}
 
--- the numbers of a file's header, and the cursor at the bit after them
+-- the numbers of a file's header
 abbrev pub HeaderOf : List ℕ → Header → Type 0
-HeaderOf s header = (header .count ≡ countIn s) × (header .p ≡ pIn s) × (header .q ≡ qIn s) × (header .next .at ≡ headerWidth)
+HeaderOf s header = (header .count ≡ countIn s) × (header .p ≡ pIn s) × (header .q ≡ qIn s)

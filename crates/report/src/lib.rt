@@ -8,8 +8,6 @@ ghost use Rattle.printed_plan.specs.Putting.{Put};
 ghost use Rattle.printed_plan.specs.Printing.{decimal, fields, line, dropWord, dropLines, runWord, runLines, planLines, refusalText, printLength, printedOver};
 use base::MAX_PLAN_RUNS;
 use base::MAX_TASKS;
-use bits::Cursor;
-use table::COUNT_WIDTH;
 
 // No line is longer: a word of at most 7 bytes, 3 numbers of at most 20 digits, each with a space, and a newline; definitions say maxLine.
 const MAX_LINE: usize = 7 + 3 * 21 + 1;
@@ -181,7 +179,7 @@ pub fn print(file: &[u8], out: &mut [u8]) -> usize
     if reply.number != 0 {
         return put_refusal(out, reply.number, reply.place);
     }
-    let count = Cursor::new().take(file, COUNT_WIDTH).value;
+    let count = reading::take_header(file).count;
     let places = count as usize;
     let runs = reply.runs;
     put_plan(

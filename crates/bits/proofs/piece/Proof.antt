@@ -17,11 +17,14 @@ sub-behind c = search needs
 sub-behind-2 : tie.Need-sub-behind-2
 sub-behind-2 c = search needs
 
-shared-slice-read-wide : tie.Need-shared-slice-read-wide
-shared-slice-read-wide c = search needs
+shared-slice-read-long : tie.Need-shared-slice-read-long
+shared-slice-read-long c = search needs
 
-wide-requires : tie.Need-wide-requires
-wide-requires c κs = search needs
+long-requires : tie.Need-long-requires
+long-requires c κs = search needs
+
+cast-result : tie.Need-cast-result
+cast-result c = search needs
 
 shr-result : tie.Need-shr-result
 shr-result c = search needs
@@ -30,13 +33,13 @@ shl-result : tie.Need-shl-result
 shl-result c = search needs
 
 rem-result : tie.Need-rem-result
-rem-result c = one-shl-pos (c .before .before .before .args .width) 32 (omega arith)
+rem-result c = one-shl-pos (c .before .before .before .args .width) 64 (omega arith)
 
 returns : tie.Need-returns
 returns c =
     let a = c .before .before .before .args in
     let small : getD (a .file .now) (a .at / 8) 0 < 256 = omega (arith, c .before .shared-slice-known2 .given (a .at / 8)) in
-    rw (c .wide .ensures, one-shl (a .width) 32 (omega arith)) (sym (field-piece (a .file .now) (a .at) (a .width) small (omega arith)))
+    rw (c .long .ensures, one-shl (a .width) 64 (omega arith)) (sym (field-piece (a .file .now) (a .at) (a .width) small (omega arith)))
 
 pub piece-spec : {M : Type 1} → statement M
-piece-spec = tie.close (tie.spec cast-behind sub-behind sub-behind-2 shared-slice-read-wide wide-requires shr-result shl-result rem-result returns)
+piece-spec = tie.close (tie.spec cast-behind sub-behind sub-behind-2 shared-slice-read-long long-requires cast-result shr-result shl-result rem-result returns)

@@ -1,14 +1,21 @@
--- `exports::planner_read` meets its contract: the parts of the reply of `reading::read`.
-use mathlib.Core.Path.{ap, _∙_}
+-- `exports::planner_read` meets its contract: the parts of the reply of reading.
+use Prim.Native.Nat.{ℕ}
+use mathlib.Core.Path.{_≡_, sym, ap, _∙_}
+use mathlib.Core.List.{List}
 use borrow.Author.Needs.{needs}
-use Rattle.table.specs.declared.Reading.{Reading}
-use Rattle.table.specs.Answers.{numberOf, placeOf}
+use Rattle.table.specs.declared.Answer.{Answer}
+use Rattle.table.specs.declared.Answer.the-variants.{Accepted}
+use Rattle.table.specs.Answers.{numberOf, placeOf, isAccepted}
+use Rattle.table.specs.Reading.{readAnswer, reading}
+use Rattle.table.proofs.AnswerLaws.{told-refused}
+use Rattle.reading.proofs.ReadLaws.{read-bits, table-refused, table-accepted}
+use Rattle.exports.specs.declared.TableRead.{TableRead}
 use Rattle.exports.specs.FileRead.{tableRead}
 use Rattle.exports.proofs.planner_read.Statement.{statement}
 use Rattle.exports.proofs.planner_read.Tie as tie
 
-read-requires : tie.Need-read-requires
-read-requires c κs = search needs
+answer-requires : tie.Need-answer-requires
+answer-requires c κs = search needs
 
 number-requires : tie.Need-number-requires
 number-requires c κs = search needs
@@ -16,14 +23,50 @@ number-requires c κs = search needs
 place-requires : tie.Need-place-requires
 place-requires c κs = search needs
 
+enum-told : tie.Need-enum-told
+enum-told c = search needs
+
+none-requires : tie.Need-none-requires
+none-requires c κs = search needs
+
+-- The reply is known by its parts.
+reply-is : (file : List ℕ) (r : TableRead) (answer : Answer) → answer ≡ readAnswer file → r .number ≡ numberOf answer → r .place ≡ placeOf answer
+    → r .table ≡ reading file .table → r ≡ tableRead file
+unfolding tableRead reading
+reply-is file r answer a n p t = λ i. record { number = (n ∙ ap numberOf a) i; place = (p ∙ ap placeOf a) i; table = t i }
+
 returns : tie.Need-returns
-unfolding tableRead
 returns c =
-    let read = c .before .before .before .read .ensures in
-    let number = c .before .before .number .ensures ∙ ap (λ (r : Reading). numberOf (r .answer)) read in
-    let place = c .before .place .ensures ∙ ap (λ (r : Reading). placeOf (r .answer)) read in
-    let table = ap (λ (r : Reading). r .table) read in
-    λ i. record { number = number i; place = place i; table = table i }
+    let read = c .before .before .before .before .answer in
+    let refused = ap isAccepted (sym (read .ensures)) ∙ told-refused (read .result) (c .before .match .keys2) in
+    reply-is _ _ (read .result) (read .ensures) (c .before .before .before .number .ensures) (c .before .before .place .ensures) (c .none .ensures ∙ table-refused _ refused)
+
+-- past the `let .. else` the file is accepted
+accepted : (c : tie.After-enum-told) → readAnswer (c .before .before .before .before .before .before .args .file .now) ≡ Accepted
+accepted c = sym (c .before .before .before .before .answer .ensures) ∙ c .enum-told .given .1
+
+take-header-requires : tie.Need-take-header-requires
+take-header-requires c κs = read-bits _ (accepted c)
+
+table-in-requires : tie.Need-table-in-requires
+table-in-requires c κs = (c .take-header .ensures, accepted (c .before))
+
+returns-2 : tie.Need-returns-2
+returns-2 c =
+    let told = c .before .before in
+    let read = told .before .before .before .before .answer in
+    reply-is _ _ (read .result) (read .ensures) (told .before .before .before .number .ensures) (told .before .before .place .ensures) (c .table-in .ensures ∙ table-accepted _ (accepted told))
 
 pub planner-read-spec : {M : Type 1} → statement M
-planner-read-spec = tie.close (tie.spec read-requires number-requires place-requires returns)
+planner-read-spec =
+    tie.close
+    (tie.spec
+    answer-requires
+    number-requires
+    place-requires
+    enum-told
+    none-requires
+    returns
+    take-header-requires
+    table-in-requires
+    returns-2)

@@ -7,11 +7,12 @@ use lib.Seq.{length-take-le}
 use borrow.Author.Tests.{lt-ltb}
 use borrow.Author.Needs.{needs}
 use Rattle.table.specs.Reading.{tableIn}
+use Rattle.table.proofs.RoundTrip.{tableIn-count}
 use Rattle.base.specs.Limits.{maxTasks, maxPlanRuns}
 use Rattle.plans.specs.Planning.{LentLists, listsFor}
 use Rattle.plans.proofs.ReplyLaws.{Replied}
 use Rattle.printed_plan.specs.Printing.{longReply, maxText, printLength, printedOver}
-use Rattle.printed_plan.proofs.TextLaws.{refusal-length, printed-length, printed-refused, file-bits, count-fits, runs-fit, text-is, count-is, print-clauses}
+use Rattle.printed_plan.proofs.TextLaws.{refusal-length, printed-length, printed-refused, file-bits, count-fits, runs-fit, text-is, print-clauses}
 use Rattle.report.proofs.print.Statement.{statement}
 use Rattle.report.proofs.print.Tie as tie
 
@@ -35,11 +36,11 @@ lengths : (c : tie.After-plan) → (length (new c .marks) ≡ maxTasks) × (leng
 lengths c = omega (arith, c .plan .kept)
 
 -- after a reply of 0
-counted : (c : tie.After-take) → c .take .result .value ≡ tableIn (c .before .before .before .before .before .before .before .before .before .before .before .before .before .before .before .before .args .file .now) .count
-counted c = count-is _ _ _ (c .before .new .ensures) (c .take .ensures .0)
+counted : (c : tie.After-take-header) → c .take-header .result .count ≡ tableIn (c .before .before .before .before .before .before .before .before .before .before .before .before .before .before .before .args .file .now) .count
+counted c = c .take-header .ensures .0 ∙ sym (tableIn-count _)
 
-few : (c : tie.After-take) → c .before .before .before .before .before .before .before .before .plan .result .runs ≤ maxPlanRuns
-few c = runs-fit _ _ _ _ (replied (c .before .before .before .before .before .before .before .before)) (c .before .before .if2 .left)
+few : (c : tie.After-take-header) → c .before .before .before .before .before .before .before .plan .result .runs ≤ maxPlanRuns
+few c = runs-fit _ _ _ _ (replied (c .before .before .before .before .before .before .before)) (c .before .if2 .left)
 
 returns : tie.Need-returns
 unfolding printLength printedOver
@@ -72,37 +73,32 @@ returns-2 c =
     let plan = refused .before .before .before .before .before .before in
     print-clauses _ _ _ _ _ (plan .before .before .before .before .before .if1 .left) (printed-refused _ (plan .plan .result) (long plan) (refused .if2 .taken)) (c .before .before .put-refusal .ensures)
 
-new-requires : tie.Need-new-requires
-new-requires c κs = search needs
-
-take-requires : tie.Need-take-requires
-take-requires c κs =
-    let some = file-bits _ _ _ _ (replied (c .before .before .before .before .before .before .before)) (c .before .if2 .left) in
-    omega (arith, c .new .ensures, some)
+take-header-requires : tie.Need-take-header-requires
+take-header-requires c κs = omega (arith, file-bits _ _ _ _ (replied (c .before .before .before .before .before .before)) (c .if2 .left))
 
 cast-places : tie.Need-cast-places
 cast-places c = search needs
 
 array-share-prefix-marks : tie.Need-array-share-prefix-marks
-array-share-prefix-marks c = omega (arith, counted (c .before), lengths (c .before .before .before .before .before .before .before .before .before), count-fits _ _ _ _ (replied (c .before .before .before .before .before .before .before .before .before)) (c .before .before .before .if2 .left))
+array-share-prefix-marks c = omega (arith, counted (c .before), lengths (c .before .before .before .before .before .before .before .before), count-fits _ _ _ _ (replied (c .before .before .before .before .before .before .before .before)) (c .before .before .if2 .left))
 
 slice-aggregate-put-plan : tie.Need-slice-aggregate-put-plan
 slice-aggregate-put-plan c = sym (length-take-le _ _ (array-share-prefix-marks (c .before)))
 
 array-share-prefix-starts : tie.Need-array-share-prefix-starts
-array-share-prefix-starts c = omega (arith, lengths (c .before .before .before .before .before .before .before .before .before .before), few (c .before .before))
+array-share-prefix-starts c = omega (arith, lengths (c .before .before .before .before .before .before .before .before .before), few (c .before .before))
 
 slice-aggregate-put-plan-2 : tie.Need-slice-aggregate-put-plan-2
 slice-aggregate-put-plan-2 c = sym (length-take-le _ _ (array-share-prefix-starts (c .before)))
 
 array-share-prefix-ends : tie.Need-array-share-prefix-ends
-array-share-prefix-ends c = omega (arith, lengths (c .before .before .before .before .before .before .before .before .before .before .before), few (c .before .before .before))
+array-share-prefix-ends c = omega (arith, lengths (c .before .before .before .before .before .before .before .before .before .before), few (c .before .before .before))
 
 slice-aggregate-put-plan-3 : tie.Need-slice-aggregate-put-plan-3
 slice-aggregate-put-plan-3 c = sym (length-take-le _ _ (array-share-prefix-ends (c .before)))
 
 array-share-prefix-tasks : tie.Need-array-share-prefix-tasks
-array-share-prefix-tasks c = omega (arith, lengths (c .before .before .before .before .before .before .before .before .before .before .before .before), few (c .before .before .before .before))
+array-share-prefix-tasks c = omega (arith, lengths (c .before .before .before .before .before .before .before .before .before .before .before), few (c .before .before .before .before))
 
 slice-aggregate-put-plan-4 : tie.Need-slice-aggregate-put-plan-4
 slice-aggregate-put-plan-4 c = sym (length-take-le _ _ (array-share-prefix-tasks (c .before)))
@@ -110,8 +106,8 @@ slice-aggregate-put-plan-4 c = sym (length-take-le _ _ (array-share-prefix-tasks
 put-plan-requires : tie.Need-put-plan-requires
 put-plan-requires c κs =
     let taken = c .before .before .before .before .before in
-    let plan = c .before .before .before .before .before .before .before .before .before .before .before .before .before in
-    let text = text-is _ _ _ _ (replied plan) (taken .before .before .if2 .left) _ (counted taken) (long plan) in
+    let plan = c .before .before .before .before .before .before .before .before .before .before .before .before in
+    let text = text-is _ _ _ _ (replied plan) (taken .before .if2 .left) _ (counted taken) (long plan) in
     ((sym (slice-aggregate-put-plan-3 (c .before)) ∙ slice-aggregate-put-plan-2 (c .before .before), sym (slice-aggregate-put-plan-4 c) ∙ slice-aggregate-put-plan-2 (c .before .before)), rw text (omega (arith, printed-length (plan .before .before .before .before .before .before .before .before .args .file .now), plan .before .before .before .before .before .if1 .left)))
 
 same-length-2 : tie.Need-same-length-2
@@ -120,8 +116,8 @@ same-length-2 c = search needs
 returns-3 : tie.Need-returns-3
 returns-3 c =
     let taken = c .before .before .before .before .before .before .before .before in
-    let plan = c .before .before .before .before .before .before .before .before .before .before .before .before .before .before .before .before in
-    print-clauses _ _ _ _ _ (plan .before .before .before .before .before .if1 .left) (text-is _ _ _ _ (replied plan) (taken .before .before .if2 .left) _ (counted taken) (long plan)) (c .before .before .put-plan .ensures)
+    let plan = c .before .before .before .before .before .before .before .before .before .before .before .before .before .before .before in
+    print-clauses _ _ _ _ _ (plan .before .before .before .before .before .if1 .left) (text-is _ _ _ _ (replied plan) (taken .before .if2 .left) _ (counted taken) (long plan)) (c .before .before .put-plan .ensures)
 
 pub print-spec : {M : Type 1} → statement M
 print-spec =
@@ -136,8 +132,7 @@ print-spec =
     put-refusal-requires
     same-length
     returns-2
-    new-requires
-    take-requires
+    take-header-requires
     cast-places
     array-share-prefix-marks
     slice-aggregate-put-plan
