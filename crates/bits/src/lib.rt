@@ -168,7 +168,8 @@ impl Row {
     pub fn take(self, width: usize) -> Taken
         requires { ⌜ (1 ≤ width) × (width ≤ 32) ⌝ }
         requires { ⌜ (width ≤ self .left) × (self .left ≤ 64) ⌝ }
-        ensures { λ r. ⌜ (r .value ≡ self .bits / 2 ^ (self .left - width) % 2 ^ width) × (r .next .bits ≡ self .bits) × (r .next .left ≡ self .left - width) ⌝ }
+        ensures { λ r. ⌜ (r .value ≡ self .bits / 2 ^ (self .left - width) % 2 ^ width)
+            × (r .next .bits ≡ self .bits) × (r .next .left ≡ self .left - width) ⌝ }
     {
         let bits = self.bits;
         let left = self.left - width;

@@ -1,15 +1,12 @@
 // Plans all tables of small sizes, and compares each plan with the search.
 ghost use Prim.Native.Nat.{_≤_};
 use crate::judges;
-use crate::placing;
-use crate::placing::RUNS;
-use crate::search;
-use crate::search::EXCEEDED;
-use crate::small;
-use crate::small::Family;
-use crate::small::PLACES;
 use base::MAX_TASKS;
 use plans::Planned;
+use small_tables::EXCEEDED;
+use small_tables::Family;
+use small_tables::PLACES;
+use small_tables::RUNS;
 use std::num::wrapping_add_u64;
 use table::NO_TASK;
 use table::Table;
@@ -57,19 +54,19 @@ fn same(
     ends: [u32; RUNS],
     run_tasks: [u32; RUNS],
 ) -> bool {
-    let crossing = search::first_crossing(tasks, family.count);
+    let crossing = small_tables::first_crossing(tasks, family.count);
     if crossing < 4 {
         return is_refusal(reply, 7, crossing);
     }
-    let none = search::score(tasks, family.row, 0);
+    let none = small_tables::score(tasks, family.row, 0);
     if EXCEEDED <= none {
         return is_refusal(reply, 8, (none % 4) as usize);
     }
-    let best = search::best(tasks, family.row);
-    let owners = placing::placed(tasks, family.row, best.list);
+    let best = small_tables::best(tasks, family.row);
+    let owners = small_tables::placed(tasks, family.row, best.list);
     is_plan(reply, best.score, family.count)
         && list_of(marks) == best.list
-        && placing::same_runs(owners, reply.runs, starts, ends, run_tasks)
+        && small_tables::same_runs(owners, reply.runs, starts, ends, run_tasks)
 }
 
 // Plans the file of some tasks into lists of 4 marks and 7 runs, and compares.
@@ -125,7 +122,7 @@ fn put_file(table: Table, list: &mut [u8]) -> usize
 
 // Plans the table at an index of a family, and compares.
 fn try_table(family: Family, index: u32) -> Outcome {
-    let tasks = small::tasks_of(family, index);
+    let tasks = small_tables::tasks_of(family, index);
     let mut file = [0u8; 40];
     let length = put_file(table_of(family, tasks), &mut file) % 41;
     planned(family, tasks, &file[0..length])

@@ -9,10 +9,7 @@
 // 8; the sums of kept, discarded and runs; how many have another plan than the one that the search finds, and the index of the first of them.
 mod checks;
 mod judges;
-mod placing;
 mod samples;
-mod search;
-mod small;
 
 use libc::STDIN_FILENO;
 

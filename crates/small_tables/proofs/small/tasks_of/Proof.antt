@@ -1,8 +1,8 @@
--- `planner_test::small::tasks_of` is safe and ends: the measure is the number of places left.
+-- `small_tables::small::tasks_of` is safe and ends: the measure is the number of places left.
 use Prim.Native.Nat.{_-_}
 use borrow.Author.Needs.{needs}
-use Rattle.planner_test.proofs.small.tasks_of.Statement.{statement}
-use Rattle.planner_test.proofs.small.tasks_of.Tie as tie
+use Rattle.small_tables.proofs.small.tasks_of.Statement.{statement}
+use Rattle.small_tables.proofs.small.tasks_of.Tie as tie
 
 abbrev Inv-loop : tie.InvT-loop
 Inv-loop family index tasks₀ rest₀ k₀ tasks rest k = Unit
