@@ -89,24 +89,23 @@ field-front s a v w y e h few =
     ap (λ x. field s (a + v) (64 - v) * x) (ap (λ x. 2 ^ x) up ∙ pow-add 2 y (64 - w)) ∙ omega arith in
     rw (bits-up s a v (64 - v) (omega arith), power) (shl-shr (field s (a + v) (64 - v) * 2 ^ y) (64 - w))
 
--- A field within the eight bytes from byte k on, as it is computed from them.
-pub eight-hold : (s : List ℕ) (k at w : ℕ) → 8 * k ≤ at → at - 8 * k + w ≤ 64
-    → (field s (8 * k) 64 * 2 ^ (at - 8 * k)) % 18446744073709551616 / 2 ^ (64 - w) ≡ field s at w
-eight-hold s k at w l h =
-    let here : 8 * k + (at - 8 * k) ≡ at = omega arith in
-    field-shifted s (8 * k) (at - 8 * k) w h ∙ ap (λ x. field s x w) here
+-- A field within the eight bytes from its first on, as it is computed from them.
+pub eight-hold : (s : List ℕ) (at w : ℕ) → at % 8 + w ≤ 64 → (field s (8 * (at / 8)) 64 * 2 ^ (at % 8)) % 18446744073709551616 / 2 ^ (64 - w) ≡ field s at w
+eight-hold s at w h =
+    let here : 8 * (at / 8) + at % 8 ≡ at = omega arith in
+    field-shifted s (8 * (at / 8)) (at % 8) w h ∙ ap (λ x. field s x w) here
 
--- A field that starts in the first of them and reaches into the ninth, as it is computed from all nine.
-pub nine-hold : (s : List ℕ) (k at w : ℕ) → getD s (k + 8) 0 < 256 → 8 * k ≤ at → at < 8 * k + 8 → w ≤ 64 → 64 < at - 8 * k + w
-    → (field s (8 * k) 64 * 2 ^ (at - 8 * k)) % 18446744073709551616 / 2 ^ (64 - w) + getD s (k + 8) 0 / 2 ^ (72 - (at - 8 * k + w)) ≡ field s at w
-nine-hold s k at w byte l first few over =
-    let v : ℕ = at - 8 * k in
-    let y : ℕ = v + w - 64 in
-    let here : 8 * k + v ≡ at = omega arith in
+-- A field that reaches into the ninth, as it is computed from all nine.
+pub nine-hold : (s : List ℕ) (at w : ℕ) → getD s (at / 8 + 8) 0 < 256 → w ≤ 64 → 64 < at % 8 + w
+    → (field s (8 * (at / 8)) 64 * 2 ^ (at % 8)) % 18446744073709551616 / 2 ^ (64 - w) + getD s (at / 8 + 8) 0 / 2 ^ (72 - (at % 8 + w)) ≡ field s at w
+nine-hold s at w byte few over =
+    let v : ℕ = at % 8 in
+    let y : ℕ = at % 8 + w - 64 in
+    let here : 8 * (at / 8) + v ≡ at = omega arith in
     let behind : 72 - (v + w) ≡ 8 - y = omega arith in
-    let ninth : 8 * (k + 8) ≡ at + (64 - v) = omega arith in
+    let ninth : 8 * (at / 8 + 8) ≡ at + (64 - v) = omega arith in
     let whole : 64 - v + y ≡ w = omega arith in
-    rw (field-front s (8 * k) v w y (omega arith) (omega arith) few, here, behind, ← byte-prefix s (k + 8) y byte (omega arith), ninth)
+    rw (field-front s (8 * (at / 8)) v w y (omega arith) (omega arith) few, here, behind, ← byte-prefix s (at / 8 + 8) y byte (omega arith), ninth)
     (sym (field-add s at (64 - v) y) ∙ ap (field s at) whole)
 
 -- A field of at most 64 bits fits 64 bits.

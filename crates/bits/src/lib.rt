@@ -124,34 +124,20 @@ fn eight(file: &[u8], k: usize) -> u64
     four(file, k, 32) + four(file, k + 4, 0)
 }
 
-// The first of the eight bytes that hold the front of a field at bit `at`: the field's own first byte, or the first of the last eight.
-fn eight_from(at: usize, length: usize) -> usize
-    requires { ⌜ 8 ≤ length ⌝ }
-    ensures { λ r. ⌜ r ≡ min (at / 8) (length - 8) ⌝ }
-{
-    let last = length - 8;
-    if last < at / 8 {
-        return last;
-    }
-    at / 8
-}
-
-// The field of `width` bits at bit `at`: out of eight bytes, and of the byte behind them where it reaches that far.
+// The field of `width` bits at bit `at`: out of the eight bytes from its first on, and of the byte behind them where it reaches that far.
 fn field_at(file: &[u8], at: usize, width: usize) -> u64
-    requires { ⌜ 8 ≤ length (now file) ⌝ }
+    requires { ⌜ at / 8 + 7 < length (now file) ⌝ }
     requires { ⌜ (1 ≤ width) × (width ≤ 64) ⌝ }
     requires { ⌜ at + width ≤ 8 * length (now file) ⌝ }
     requires { ⌜ at + width < 2 ^ 64 ⌝ }
     ensures { λ r. ⌜ r ≡ field (now (file .entry)) at width ⌝ }
 {
-    let k = eight_from(at, file.len());
-    let skipped = at - 8 * k;
-    let front = (eight(file, k) << skipped as u32) >> (64 - width) as u32;
-    let end = skipped + width;
+    let front = (eight(file, at / 8) << (at % 8) as u32) >> (64 - width) as u32;
+    let end = at % 8 + width;
     if end <= 64 {
         return front;
     }
-    front + (long(file[k + 8]) >> (72 - end) as u32)
+    front + (long(file[at / 8 + 8]) >> (72 - end) as u32)
 }
 
 impl Row {
@@ -187,9 +173,9 @@ impl Cursor {
         Cursor { at: 0 }
     }
 
-    // The row of `width` bits at the cursor, and the cursor behind it.
+    // The row of `width` bits at the cursor, and the cursor behind it. There are eight bytes from the cursor's on.
     pub fn take(self, file: &[u8], width: usize) -> TakenRow
-        requires { ⌜ 8 ≤ length (now file) ⌝ }
+        requires { ⌜ self .at / 8 + 7 < length (now file) ⌝ }
         requires { ⌜ (1 ≤ width) × (width ≤ 64) ⌝ }
         requires { ⌜ self .at + width ≤ 8 * length (now file) ⌝ }
         requires { ⌜ self .at + width < 2 ^ 64 ⌝ }

@@ -10,15 +10,6 @@ use Rattle.bits.proofs.ByteLaws.{eight-hold, nine-hold, field-small}
 use Rattle.bits.proofs.field_at.Statement.{statement}
 use Rattle.bits.proofs.field_at.Tie as tie
 
-eight-from-requires : tie.Need-eight-from-requires
-eight-from-requires c κs = search needs
-
-mul-skipped : tie.Need-mul-skipped
-mul-skipped c = search needs
-
-sub-skipped : tie.Need-sub-skipped
-sub-skipped c = search needs
-
 eight-requires : tie.Need-eight-requires
 eight-requires c κs = search needs
 
@@ -48,8 +39,8 @@ add-end c = search needs
 
 returns : tie.Need-returns
 returns c =
-    let a = c .before .before .before .before .args in
-    rw (c .before .eight .ensures) (eight-hold (a .file .now) (c .before .before .eight-from .result) (a .at) (a .width) (omega arith) (omega arith))
+    let a = c .before .before .before .args in
+    rw (c .before .eight .ensures) (eight-hold (a .file .now) (a .at) (a .width) (omega arith))
 
 add-long : tie.Need-add-long
 add-long c = search needs
@@ -74,19 +65,17 @@ shr-result c = search needs
 
 -- All nine bytes together are the field.
 nine : (c : tie.After-long)
-    → (c .before .before .before .eight .result * 2 ^ (c .before .before .before .before .before .before .args .at - 8 * c .before .before .before .before .eight-from .result)) % 18446744073709551616 / 2 ^ (64 - c .before .before .before .before .before .before .args .width)
-    + c .long .result / 2 ^ (72 - (c .before .before .before .before .before .before .args .at - 8 * c .before .before .before .before .eight-from .result + c .before .before .before .before .before .before .args .width))
-    ≡ field (c .before .before .before .before .before .before .args .file .now) (c .before .before .before .before .before .before .args .at) (c .before .before .before .before .before .before .args .width)
+    → (c .before .before .before .eight .result * 2 ^ (c .before .before .before .before .before .args .at % 8)) % 18446744073709551616 / 2 ^ (64 - c .before .before .before .before .before .args .width)
+    + c .long .result / 2 ^ (72 - (c .before .before .before .before .before .args .at % 8 + c .before .before .before .before .before .args .width))
+    ≡ field (c .before .before .before .before .before .args .file .now) (c .before .before .before .before .before .args .at) (c .before .before .before .before .before .args .width)
 nine c =
-    let a = c .before .before .before .before .before .before .args in
-    let k = c .before .before .before .before .eight-from .result in
-    let byte : getD (a .file .now) (k + 8) 0 < 256 = omega (arith, c .before .shared-slice-known2 .given (k + 8)) in
-    rw (c .before .before .before .eight .ensures, c .long .ensures)
-    (nine-hold (a .file .now) k (a .at) (a .width) byte (omega arith) (omega arith) (omega arith) (omega arith))
+    let a = c .before .before .before .before .before .args in
+    let byte : getD (a .file .now) (a .at / 8 + 8) 0 < 256 = omega (arith, c .before .shared-slice-known2 .given (a .at / 8 + 8)) in
+    rw (c .before .before .before .eight .ensures, c .long .ensures) (nine-hold (a .file .now) (a .at) (a .width) byte (omega arith) (omega arith))
 
 add-result : tie.Need-add-result
 add-result c =
-    let a = c .before .before .before .before .before .before .args in
+    let a = c .before .before .before .before .before .args in
     rw (nine c) (omega (arith, field-small (a .file .now) (a .at) (a .width) (omega arith)))
 
 returns-2 : tie.Need-returns-2
@@ -96,9 +85,6 @@ pub field-at-spec : {M : Type 1} → statement M
 field-at-spec =
     tie.close
     (tie.spec
-    eight-from-requires
-    mul-skipped
-    sub-skipped
     eight-requires
     cast-front
     cast-front-2

@@ -22,9 +22,9 @@ loop-holds : tie.Need-loop-holds Inv-loop μ-loop
 unfolding taskStart
 loop-holds c = (omega arith, omega arith, refl, λ k l. absurd (omega arith))
 
-take-task-requires : tie.Need-take-task-requires Inv-loop μ-loop
+take-window-requires : tie.Need-take-window-requires Inv-loop μ-loop
 unfolding taskStart
-take-task-requires c κs = omega arith
+take-window-requires c κs = omega arith
 
 mul-frames : tie.Need-mul-frames Inv-loop μ-loop
 mul-frames c = omega arith
@@ -41,6 +41,10 @@ mul-frames-2 c = omega arith
 slice-write-frames-2 : tie.Need-slice-write-frames-2 Inv-loop μ-loop
 slice-write-frames-2 c = simp length-set (omega arith)
 
+add-t9 : tie.Need-add-t9 Inv-loop μ-loop
+unfolding taskStart
+add-t9 c = omega arith
+
 add-i : tie.Need-add-i Inv-loop μ-loop
 add-i c = omega arith
 
@@ -50,17 +54,16 @@ loop-less c = omega arith
 loop-again : tie.Need-loop-again Inv-loop μ-loop
 unfolding taskStart taskIn
 loop-again c =
-    let l = c .before .before .before .before .loop in
-    let before = l .inv in
-    let task = c .before .before .take-task .result .task in
-    let taken = c .before .before .take-task .ensures in
-    let file = c .before .before .before .before .before .before .before .args .file .now in
-    let same = taken .0 ∙ ap (λ (start : ℕ). taskFrom file start) (before .1) in (
+    let l = c .before .before .before .loop in
+    let window = c .before .take-window .result in
+    let taken = c .before .take-window .ensures in
+    let file = c .before .before .before .before .before .before .args .file .now in
+    let here = ap (λ (start : ℕ). taskFrom file start) (l .inv .1) in (
       omega arith,
       omega arith,
-      simp length-set (before .2),
-      frames-more (taskIn file) (l .i) (l .frames) (task .release) (task .deadline) (omega arith) (omega arith)
-          (ap (λ (task : Task). task .release) same) (ap (λ (task : Task). task .deadline) same) (before .3),
+      simp length-set (l .inv .2),
+      frames-more (taskIn file) (l .i) (l .frames) (window .release) (window .deadline) (omega arith) (omega arith)
+          (taken .0 ∙ ap (λ (task : Task). task .release) here) (taken .1 ∙ ap (λ (task : Task). task .deadline) here) (l .inv .3),
     )
 
 same-length : tie.Need-same-length Inv-loop μ-loop
@@ -76,12 +79,13 @@ take-frames-spec =
     Inv-loop
     μ-loop
     loop-holds
-    take-task-requires
+    take-window-requires
     mul-frames
     slice-write-frames
     add-frames
     mul-frames-2
     slice-write-frames-2
+    add-t9
     add-i
     loop-less
     loop-again
