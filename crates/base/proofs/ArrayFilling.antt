@@ -44,6 +44,20 @@ filled-set blank item size count i kept x m l e f =
       beyond = λ k a n. rw (getD-set-other kept i k x blank (omega arith)) (f .beyond k a n);
     }
 
+-- a place that is not to be filled
+pub filled-skip : {A : Type 0} (blank : A) (item : ℕ → A) (size count i : ℕ) (kept : List A) → (i < count → i < size → ⊥) → Filled blank item size count i kept
+    → Filled blank item size count (i + 1) kept
+filled-skip blank item size count i kept n f =
+    record {
+      length-is = f .length-is;
+      before = λ k a b m. elim (decLt k i) [
+        | yes l ↦ f .before k l b m
+        | no l ↦ let e : k ≡ i = omega arith in absurd (n (rw e at b) (rw e at m))
+      ];
+      after = λ k a m. f .after k (omega arith) m;
+      beyond = f .beyond;
+    }
+
 -- once every place below the count is filled, the array is the list of places
 pub filled-whole : {A : Type 0} (blank : A) (item : ℕ → A) (size count i : ℕ) (kept : List A) → ((k : ℕ) → k < count → k < size → k < i) → Filled blank item size count i kept
     → kept ≡ places (λ k. pick (ltb k count) (item k) blank) size

@@ -21,6 +21,11 @@ pick-true b x y e = rw e
 pub pick-false : {A : Type 0} (b : Bool) (x y : A) → b ≡ false → pick b x y ≡ y
 pick-false b x y e = rw e
 
+-- what is picked of one and the same
+pub pick-same : {A : Type 0} (b : Bool) (x : A) → pick b x x ≡ x
+pick-same true x = refl
+pick-same false x = refl
+
 -- both tests hold exactly where each does
 pub and-true : (a b : Bool) → a ≡ true → b ≡ true → and a b ≡ true
 and-true a b p q = rw (p, q)
@@ -32,6 +37,15 @@ and-left false b e = e
 pub and-right : (a b : Bool) → and a b ≡ true → b ≡ true
 and-right true b e = e
 and-right false b e = both-absurd false e refl
+
+-- a test that stands twice, and a test beside one that does not hold
+pub and-again : (a b : Bool) → and a (and a b) ≡ and a b
+and-again true b = refl
+and-again false b = refl
+
+pub and-none : (a : Bool) → and a false ≡ false
+and-none true = refl
+and-none false = refl
 
 -- neither test holds exactly where each does not
 pub or-false : (a b : Bool) → a ≡ false → b ≡ false → or a b ≡ false
@@ -80,3 +94,8 @@ picked P false h f g = g refl h
 -- where not both tests hold and the first does, the second does not
 pub and-not-second : (a b : Bool) → and a b ≡ false → a ≡ true → b ≡ false
 and-not-second a b e p = rw p at e
+
+-- where the second test holds, one does
+pub or-true : (b : Bool) → or b true ≡ true
+or-true true = refl
+or-true false = refl

@@ -48,7 +48,7 @@ marks-least a b (inl e) = rw e (atMost-refl (discardMarks a))
 marks-least a b (inr f) = first-atMost a b f
 
 -- one mark more, the same in both lists
-first-cons : (x : Bool) (a b : List Bool) → (b ≡ a) ⊎ KeepsFirst a b → (x ∷ b ≡ x ∷ a) ⊎ KeepsFirst (x ∷ a) (x ∷ b)
+pub first-cons : (x : Bool) (a b : List Bool) → (b ≡ a) ⊎ KeepsFirst a b → (x ∷ b ≡ x ∷ a) ⊎ KeepsFirst (x ∷ a) (x ∷ b)
 first-cons x a b (inl e) = inl (ap (λ l. x ∷ l) e)
 first-cons x a b (inr f) =
     inr (record {

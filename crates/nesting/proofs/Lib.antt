@@ -2,3 +2,4 @@ pub mod NestLaws
 pub mod InsertLaws
 pub mod OrderLaws
 pub mod TableRunnings
+pub mod BeforeLaws

@@ -13,3 +13,4 @@ pub mod HeldLaws
 pub mod RunColumns
 pub mod FillLaws
 pub mod FilledPlaces
+pub mod LatestTicks

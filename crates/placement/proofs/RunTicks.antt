@@ -71,7 +71,7 @@ latest-run owner run runs e m f n h l =
     n h l
 
 -- what holds of two runs that touch holds in the rest of the list
-longest-tail : (run : Run) (runs : List Run) → Longest (run ∷ runs) → Longest runs
+pub longest-tail : (run : Run) (runs : List Run) → Longest (run ∷ runs) → Longest runs
 longest-tail run [] m = tt
 longest-tail run (next ∷ runs) m = m .1
 

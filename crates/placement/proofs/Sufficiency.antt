@@ -42,7 +42,7 @@ module _ (owner : Owner) (job : Job) (w : ℕ) where
       (leb-true (job .release) tick a, ltb-true tick (job .deadline) b, ltb-true (freeIn owner (suc tick) (job .deadline)) w c)
 
   -- it does not reach back to a tick of the window: w free ticks lie after it
-  reach-false : (tick : ℕ) → reachesBack owner job w tick ≡ false → job .release ≤ tick → tick < job .deadline
+  pub reach-false : (tick : ℕ) → reachesBack owner job w tick ≡ false → job .release ≤ tick → tick < job .deadline
       → w ≤ freeIn owner (suc tick) (job .deadline)
   reach-false tick e l h = ltb-false (freeIn owner (suc tick) (job .deadline)) w (rw (le-leb (job .release) tick l, lt-ltb tick (job .deadline) h) at e)
 
@@ -112,7 +112,7 @@ gains owner job w zero = refl
 gains owner job w (suc n) = omega (arith, gains owner job w n, give-sum (job .position) (reachesBack owner job w n) (owner n))
 
 -- where only jobs of a list have ticks, a job of no position in it has none
-stranger : (i k : ℕ) (jobs : List Job) (tick : ℕ) → All (λ n. i ≢ n) (positions jobs) → Any (WindowHolds tick k) jobs → k ≢ i
+pub stranger : (i k : ℕ) (jobs : List Job) (tick : ℕ) → All (λ n. i ≢ n) (positions jobs) → Any (WindowHolds tick k) jobs → k ≢ i
 stranger i k (job ∷ jobs) tick d (inl h) = let n = d .0 in omega arith
 stranger i k (job ∷ jobs) tick d (inr h) = stranger i k jobs tick (d .1) h
 

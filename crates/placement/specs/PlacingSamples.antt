@@ -4,6 +4,7 @@ use mathlib.Core.Path.{_≡_}
 use mathlib.Core.List.{List, [], _∷_}
 use Rattle.schedule.specs.declared.Job.{Job}
 use Rattle.schedule.specs.declared.Run.{Run}
+use Rattle.schedule.specs.Runs.{runOf as run}
 use Rattle.choice.specs.Choice.{chosen}
 use Rattle.choice.specs.ChoiceSamples.{job, p8Jobs, p10Jobs}
 use Rattle.placement.specs.Placing.{placed, stretches}
@@ -13,10 +14,6 @@ pub record PlacingSample : Type 0 where
   pub jobs : List Job
   pub last : ℕ
   pub runs : List Run
-
--- a run from its start, end and task
-abbrev pub run : ℕ → ℕ → ℕ → Run
-run start end task = record { start = start; end = end; task = task }
 
 -- P4, P5, P7, P8 and P10
 abbrev pub placingSamples : List PlacingSample

@@ -7,7 +7,7 @@ ghost use Prim.Native.Nat.{ℕ, _≤_, _<_};
 ghost use lib.ListN.{length, getD, drop};
 ghost use Rattle.base.specs.Limits.{maxTasks};
 ghost use Rattle.base.specs.Places.{places, firstPlaces};
-ghost use Rattle.table.specs.Reading.{tableIn};
+ghost use Rattle.table.specs.Reading.{tableIn, reading};
 ghost use Rattle.table.specs.Writing.{Legal};
 ghost use Rattle.schedule.specs.Jobs.{noJob, Bounded};
 ghost use Rattle.base.specs.Members.{Any, Distinct};
@@ -17,6 +17,7 @@ ghost use Rattle.nesting.specs.NestOrder.{jobsOutermostFirst};
 ghost use Rattle.plans.specs.Planning.{exceedingAfter, tooShort, markAt, planDeclined, planOf};
 ghost use Rattle.plans.specs.Planning.{lent, shortLists, planTable, planReply, planWritten, listsAfter};
 ghost use Rattle.plans.specs.Demands.{EightExactly, JudgeAccepts, PlannedOptimal};
+ghost use Rattle.plans.specs.Rules.{PlannedByRules, EightFirst};
 use base::MAX_TASKS;
 use plans::Planned;
 use schedule::Job;
@@ -149,6 +150,38 @@ fn plan_table(
     put_plan(table, jobs, marks, starts, ends, tasks)
 }
 
+// A reply of planning with the task count of the table that was read, which is 0 where reading refuses.
+pub struct Counted {
+    pub count: u32,
+    pub reply: Planned,
+}
+
+// Planning a file, with its task count, for callers that print the plan.
+pub fn plan_counted(
+    file: &[u8],
+    marks: &mut [u8],
+    starts: &mut [u32],
+    ends: &mut [u32],
+    tasks: &mut [u32],
+) -> Counted
+    ensures { λ r. ⌜ r .count ≡ reading (now (file .entry)) .table .count ⌝ }
+    ensures { λ r. ⌜ r .reply
+        ≡ planReply (now (file .entry)) (lent (now (marks .entry)) (now (starts .entry)) (now (ends .entry)) (now (tasks .entry))) ⌝ }
+    ensures { λ r. ⌜ lent (now (marks .exit)) (now (starts .exit)) (now (ends .exit)) (now (tasks .exit))
+        ≡ listsAfter (tableIn (now (file .entry))) (r .reply) (lent (now (marks .entry)) (now (starts .entry)) (now (ends .entry)) (now (tasks .entry))) ⌝ }
+{
+    let read = reading::read(file);
+    let table = read.table;
+    let count = table.count;
+    let answer = read.answer;
+    let Answer::Accepted = answer else {
+        let reply = declined(answer.number(), answer.place());
+        return Counted { count, reply };
+    };
+    let reply = plan_table(table, marks, starts, ends, tasks);
+    Counted { count, reply }
+}
+
 // Planning: any bytes get the reply of document 01. Where nothing is refused, the marks by position and the runs by start stand in the lent lists;
 // a refusal changes none of them.
 pub fn plan(
@@ -166,12 +199,11 @@ pub fn plan(
         (lent (now (marks .exit)) (now (starts .exit)) (now (ends .exit)) (now (tasks .exit))) ⌝ }
     ensures demand_3 { λ r. ⌜ PlannedOptimal (now (file .entry)) r
         (lent (now (marks .exit)) (now (starts .exit)) (now (ends .exit)) (now (tasks .exit))) ⌝ }
+    ensures by_rules { λ r. ⌜ PlannedByRules (now (file .entry)) r
+        (lent (now (marks .exit)) (now (starts .exit)) (now (ends .exit)) (now (tasks .exit))) ⌝ }
+    ensures eight_first { λ r. ⌜ EightFirst (now (file .entry)) r ⌝ }
 {
-    let read = reading::read(file);
-    let answer = read.answer;
-    let Answer::Accepted = answer else {
-        return declined(answer.number(), answer.place());
-    };
-    let table = read.table;
-    plan_table(table, marks, starts, ends, tasks)
+    let counted = plan_counted(file, marks, starts, ends, tasks);
+    let reply = counted.reply;
+    reply
 }

@@ -25,7 +25,7 @@ use Rattle.nesting.proofs.OrderLaws.{all-outermost}
 use Rattle.plans.specs.Planning.{exceedingAfter, firstExceeding}
 
 -- the search goes on in a second list where it finds nothing in the first
-exceeding-append : (n sum : ℕ) (xs ys : List Job) → All (λ job. job .position < n) xs
+pub exceeding-append : (n sum : ℕ) (xs ys : List Job) → All (λ job. job .position < n) xs
     → exceedingAfter n sum (xs ++ ys)
     ≡ pick (ltb (exceedingAfter n sum xs) n) (exceedingAfter n sum xs) (exceedingAfter n (sum + mandatorySum xs) ys)
 unfolding exceedingAfter mandatorySum
@@ -68,7 +68,7 @@ unfolding mandatorySum
 sum-append [] ys = omega arith
 sum-append (job ∷ xs) ys = omega (arith, sum-append xs ys)
 
-sum-reverse : (jobs : List Job) → mandatorySum (reverse jobs) ≡ mandatorySum jobs
+pub sum-reverse : (jobs : List Job) → mandatorySum (reverse jobs) ≡ mandatorySum jobs
 unfolding mandatorySum
 sum-reverse [] = refl
 sum-reverse (job ∷ jobs) = rw (reverse-cons job jobs) (omega (arith, sum-append (reverse jobs) (job ∷ []), sum-reverse jobs))
@@ -96,7 +96,7 @@ one-more n place position false true h e = rw (e, le-ltb n n (omega arith))
 one-more n place position false false h e = rw (e, e)
 
 -- some task exceeds its window exactly where the mandatory parts do not fit
-exceeding-test : (n : ℕ) (jobs : List Job) → All (λ job. job .position < n) jobs
+pub exceeding-test : (n : ℕ) (jobs : List Job) → All (λ job. job .position < n) jobs
     → ltb (exceedingAfter n 0 (reverse jobs)) n ≡ not (fits jobs (keepNone jobs))
 unfolding exceedingAfter worksFit worksOf mandatorySum
 exceeding-test n [] h = le-ltb n n (omega arith)

@@ -1,5 +1,10 @@
 pub mod ExceedLaws
 pub mod MarkLaws
 pub mod PlanLaws
+pub mod UpToLaws
+pub mod ExceedingFirst
+pub mod FittingLaws
+pub mod RuleLaws
+pub mod PlacingRules
 pub mod ReplyLaws
 pub mod ArrayLaws

@@ -28,7 +28,7 @@ use Rattle.choice.specs.Choice.{fits, keepNone, chosen, kept, discarded}
 use Rattle.choice.proofs.ChoiceLaws.{chosen-length}
 use Rattle.placement.specs.Placing.{placed, outermostDeadline}
 use Rattle.placement.proofs.Best.{chosen-fits}
-use Rattle.placement.proofs.RunOrder.{placed-listed, placed-few}
+use Rattle.placement.proofs.RunOrder.{Listed, placed-listed, placed-few}
 use Rattle.placement.proofs.FilledPlaces.{chain-deadlines}
 use Rattle.placement.proofs.PlanLaws.{SameMarks, placed-together}
 use Rattle.nesting.specs.NestOrder.{outermostFirst, jobsOutermostFirst}
@@ -90,10 +90,13 @@ module _ (t : Table) (legal : Legal t) (none : fits (jobsOutermostFirst t) (keep
   ends-outermost : All (λ job. job .deadline ≤ outermostDeadline (jobsOutermostFirst t)) (jobsOutermostFirst t)
   ends-outermost = chain-deadlines (jobsOutermostFirst t) (nest-chain t legal)
 
-  -- its runs say who has each tick
-  plan-owner : ownerOf (planRuns t) ≡ placed (jobsOutermostFirst t) (keepList t)
+  -- none of its runs is empty, they stand by start, and they say who has each tick
+  pub plan-listed : Listed (placed (jobsOutermostFirst t) (keepList t)) (planRuns t)
   unfolding planRuns
-  plan-owner = fun-ext (placed-listed (jobsOutermostFirst t) (keepList t) (nest-chain t legal) keeps-fit (outermostDeadline (jobsOutermostFirst t)) ends-outermost .says)
+  plan-listed = placed-listed (jobsOutermostFirst t) (keepList t) (nest-chain t legal) keeps-fit (outermostDeadline (jobsOutermostFirst t)) ends-outermost
+
+  pub plan-owner : ownerOf (planRuns t) ≡ placed (jobsOutermostFirst t) (keepList t)
+  plan-owner = fun-ext (plan-listed .says)
 
   -- marks and runs are together a running of the table
   pub plan-together : Together (jobsOf t) (planMarks t) (planRuns t)
@@ -144,10 +147,7 @@ module _ (t : Table) (legal : Legal t) (none : fits (jobsOutermostFirst t) (keep
 
   -- the judge says yes
   plan-verdict : verdict t (planMarks t) (planRuns t) ≡ true
-  unfolding planRuns
-  plan-verdict =
-      let listed = placed-listed (jobsOutermostFirst t) (keepList t) (nest-chain t legal) keeps-fit (outermostDeadline (jobsOutermostFirst t)) ends-outermost in
-      judge-verdict t (planMarks t) (planRuns t) .1 (listed .nonempty, listed .ordered, plan-together)
+  plan-verdict = judge-verdict t (planMarks t) (planRuns t) .1 (plan-listed .nonempty, plan-listed .ordered, plan-together)
 
   -- Demand 2: the judge accepts the plan, with the plan's counts.
   table-judged : judgeTable t (planMarks t) (startsOf (planRuns t)) (endsOf (planRuns t)) (tasksOf (planRuns t)) ≡ judgeSays true (planOf t .kept) (planOf t .discarded)

@@ -1,4 +1,4 @@
--- From the reply and the content of the lent lists to demands 2 and 3.
+-- From the reply and the content of the lent lists to demands 2 and 3 and to the rules.
 use Prim.Native.Nat.{ℕ, _≤_, _<_}
 use mathlib.Core.Path.{_≡_, refl, sym, ap, _∙_}
 use mathlib.Core.Bool.{true, false}
@@ -6,22 +6,26 @@ use mathlib.Core.List.{List, map}
 use native.Mathlib.Omega.{arith}
 use lib.Dec.{ltb, eqb}
 use lib.ListN.{length, take, drop, length-map}
-use borrow.Author.Tests.{lt-ltb, le-ltb, eqb-false}
+use borrow.Author.Tests.{ltb-true, lt-ltb, le-ltb, eqb-false}
 use Rattle.base.specs.Lent.{writtenFront}
 use Rattle.base.proofs.TestLaws.{cases}
 use Rattle.table.specs.declared.Table.{Table}
 use Rattle.table.specs.declared.Answer.the-variants.{Accepted}
 use Rattle.table.specs.Answers.{numberOf, placeOf, isAccepted}
 use Rattle.table.specs.Reading.{tableIn, readAnswer}
-use Rattle.table.proofs.AnswerLaws.{refused-number, accepted-is}
+use Rattle.table.proofs.AnswerLaws.{refused-number, number-low, accepted-is}
 use Rattle.table.proofs.RoundTrip.{read-legal}
 use Rattle.schedule.specs.declared.Run.{Run}
 use Rattle.schedule.specs.Runs.{startsOf, endsOf, tasksOf}
 use Rattle.schedule.specs.Judging.{judgeSays}
 use Rattle.plans.specs.declared.Planned.{Planned}
 use Rattle.plans.specs.Planning.{LentLists, shortLists, firstExceeding, planMarks, planRuns, planDeclined, planOf, planTable, planReply, planWritten, listsAfter}
-use Rattle.plans.specs.Demands.{marksIn, EightExactly, JudgeAccepts, PlannedOptimal}
+use Rattle.plans.specs.Demands.{marksIn, runsIn, EightExactly, JudgeAccepts, PlannedOptimal}
+use Rattle.plans.specs.Rules.{FirstExceeding, PlannedByRules, EightFirst}
 use Rattle.plans.proofs.PlanLaws.{none-exceeds, marks-length, plan-optimal, plan-impossible, Plannable, plan-judged}
+use Rattle.plans.proofs.ExceedingFirst.{exceeding-first}
+use Rattle.plans.proofs.RuleLaws.{plan-by-rules}
+use Rattle.plans.proofs.PlacingRules.{plan-latest, plan-longest}
 use Rattle.schedule.proofs.ColumnLaws.{columns-runs}
 use Rattle.base.proofs.ListLaws.{front-taken}
 
@@ -145,6 +149,9 @@ module _ (file : List ℕ) (reply : Planned) (old new : LentLists) (r : Replied 
   unfolding planWritten
   tasks-taken = column-taken (λ run. run .task) (λ l. l .tasks) refl
 
+  pub runs-taken : runsIn reply new ≡ planRuns (tableIn file)
+  runs-taken = rw (starts-taken, ends-taken, tasks-taken) (columns-runs (planRuns (tableIn file)))
+
 -- Demand 2: the judge accepts what was written, with the plan's counts.
 pub reply-judged : (file : List ℕ) (reply : Planned) (old new : LentLists) → Replied file reply old new → JudgeAccepts file reply new
 reply-judged file reply old new r z =
@@ -156,25 +163,49 @@ reply-judged file reply old new r z =
 pub reply-optimal : (file : List ℕ) (reply : Planned) (old new : LentLists) → Replied file reply old new → PlannedOptimal file reply new
 reply-optimal file reply old new r z =
     let m = made file reply old new r z in
-    rw (
-      marks-taken file reply old new r z,
-      starts-taken file reply old new r z,
-      ends-taken file reply old new r z,
-      tasks-taken file reply old new r z,
-      columns-runs (planRuns (tableIn file)),
-      ap (λ (p : Planned). p .discarded) (m .reply-is),
-    )
+    rw (marks-taken file reply old new r z, runs-taken file reply old new r z, ap (λ (p : Planned). p .discarded) (m .reply-is))
     (plan-optimal (tableIn file) (m .made .legal) (m .made .none))
+
+-- The rules of choosing and placing, of what was written.
+pub reply-by-rules : (file : List ℕ) (reply : Planned) (old new : LentLists) → Replied file reply old new → PlannedByRules file reply new
+reply-by-rules file reply old new r z =
+    let m = made file reply old new r z in
+    rw (marks-taken file reply old new r z, runs-taken file reply old new r z)
+    (record {
+      chosen = plan-by-rules (tableIn file) (m .made .none);
+      together = plan-optimal (tableIn file) (m .made .legal) (m .made .none) .together;
+      latest = plan-latest (tableIn file) (m .made .legal) (m .made .none);
+      longest = plan-longest (tableIn file) (m .made .legal) (m .made .none);
+    })
+
+-- The place of an 8, on the table of an accepted file and on any file: no refusal of reading has the number 8.
+table-first : (t : Table) (lists : LentLists) → planTable t lists .number ≡ 8 → FirstExceeding t (planTable t lists .place)
+unfolding planTable planOf
+table-first t lists =
+    cases (ltb (firstExceeding t) (t .count))
+    (λ e. rw e (λ z. exceeding-first t (firstExceeding t) .0 (refl, ltb-true (firstExceeding t) (t .count) e)))
+    (λ e. rw e (cases (shortLists (t .count) lists) (λ h. rw h (λ z. absurd (omega arith))) (λ h. rw h (λ z. absurd (omega arith)))))
+
+pub plan-first : (file : List ℕ) (lists : LentLists) → EightFirst file (planReply file lists)
+unfolding planReply
+plan-first file lists =
+    cases (isAccepted (readAnswer file))
+    (λ e. rw e (table-first (tableIn file) lists))
+    (λ e. rw e (λ z. absurd (omega (arith, number-low (readAnswer file)))))
 
 -- Every clause of the plan call, from its reply and the content of the lent lists.
 pub call-clauses : (file : List ℕ) (reply : Planned) (old new : LentLists) → Replied file reply old new
     → (reply ≡ planReply file old)
     × ((new ≡ listsAfter (tableIn file) reply old)
-    × (EightExactly file reply × (JudgeAccepts file reply new × PlannedOptimal file reply new)))
+    × (EightExactly file reply
+    × (JudgeAccepts file reply new × (PlannedOptimal file reply new × (PlannedByRules file reply new × EightFirst file reply)))))
 call-clauses file reply old new r = (
   r .reply-is,
   (
     r .lists-are,
-    (λ a. rw (r .reply-is) (plan-impossible file old a), (reply-judged file reply old new r, reply-optimal file reply old new r)),
+    (
+      λ a. rw (r .reply-is) (plan-impossible file old a),
+      (reply-judged file reply old new r, (reply-optimal file reply old new r, (reply-by-rules file reply old new r, rw (r .reply-is) (plan-first file old)))),
+    ),
   ),
 )

@@ -6,3 +6,4 @@ pub mod BusyLaws
 pub mod PassLaws
 pub mod VerdictLaws
 pub mod ColumnLaws
+pub mod JudgeFreedoms

@@ -1,5 +1,5 @@
 -- Judging a keep list and a run list, whoever made them.
-use Prim.Native.Nat.{ℕ, _+_, _-_}
+use Prim.Native.Nat.{ℕ, _+_, _-_, _<_}
 use mathlib.Core.Path.{_≡_}
 use mathlib.Core.Logic.{_↔_}
 use mathlib.Core.List.{List, [], _∷_}
@@ -103,3 +103,15 @@ pub record Acceptable (file marks : List ℕ) (runs : List Run) : Type 0 where
 -- Demand 2: where the judge refuses nothing, it says yes exactly when list and runs are so
 abbrev pub Sound : List ℕ → List ℕ → List Run → Judged → Type 0
 Sound file marks runs reply = reply .number ≡ 0 → (reply .yes ≡ true) ↔ Acceptable file marks runs
+
+-- 'A mark of 1 or 0 for an optional part of 0 ticks is equally good.' The theorem `zero-marks-free` says so of lists that are as follows.
+
+-- the marks of two keep lists are the same at every optional part above 0 ticks; at the others they are any
+abbrev pub SameAtParts : Table → List ℕ → List ℕ → Type 0
+SameAtParts t marks other = (k : ℕ) → k < t .count → 0 < jobAt t k .optional → getD marks k 0 ≡ getD other k 0
+
+-- two keep lists are equally good: with the same runs they get the same verdict and the same counts
+pub record EquallyGood (t : Table) (marks other : List ℕ) (runs : List Run) : Type 0 where
+  pub yes : verdict t marks runs ≡ verdict t other runs
+  pub kept : keptCount t marks ≡ keptCount t other
+  pub discarded : discardedCount t marks ≡ discardedCount t other

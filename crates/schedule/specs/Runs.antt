@@ -16,9 +16,12 @@ use Rattle.schedule.specs.Ticks.{Owner}
 use Rattle.schedule.specs.Runnings.{got, RunningOf, Whole}
 use Rattle.base.specs.Members.{All}
 
--- the run of which every number is 0
+-- a run by its start, its end and its task, and the run of which every number is 0
+abbrev pub runOf : ℕ → ℕ → ℕ → Run
+runOf start end task = record { start = start; end = end; task = task }
+
 abbrev pub noRun : Run
-noRun = record { start = 0; end = 0; task = 0 }
+noRun = runOf 0 0 0
 
 -- more than 4,096 runs, or run columns of unequal length
 unfoldable pub badColumns : List ℕ → List ℕ → List ℕ → Bool

@@ -17,6 +17,11 @@ abbrev pub one : Bool → ℕ
 one true = 1
 one false = 0
 
+-- the sum of a number of each over the numbers below n
+unfoldable pub sumBelow : (ℕ → ℕ) → ℕ → ℕ
+sumBelow number zero = 0
+sumBelow number (suc n) = number n + sumBelow number n
+
 -- how many of the numbers below n pass a test
 unfoldable pub countBelow : (ℕ → Bool) → ℕ → ℕ
 countBelow test zero = 0

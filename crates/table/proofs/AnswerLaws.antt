@@ -47,6 +47,17 @@ refused-number Period e = refl
 refused-number (Window position) e = refl
 refused-number (Nesting position) e = refl
 
+-- no refusal of reading has a number above 7
+pub number-low : (a : Answer) → numberOf a ≤ 7
+number-low Accepted = omega arith
+number-low (Short length) = omega arith
+number-low Count = omega arith
+number-low (Long needed) = omega arith
+number-low Padding = omega arith
+number-low Period = omega arith
+number-low (Window position) = omega arith
+number-low (Nesting position) = omega arith
+
 -- an answer that refuses nothing is `Accepted`
 pub accepted-is : (a : Answer) → isAccepted a ≡ true → a ≡ Accepted
 accepted-is Accepted e = refl

@@ -1,7 +1,7 @@
 // The table value: its tasks, its places, its constructor, the rules for windows that reading and writing share, and the answers.
 ghost use mathlib.Core.Path.{_≡_};
 ghost use mathlib.Core.Bool.{not};
-ghost use Prim.Native.Nat.{_≤_};
+ghost use Prim.Native.Nat.{_≤_, min};
 ghost use lib.ListN.{length, getD};
 ghost use Rattle.base.specs.Limits.{maxTasks};
 ghost use Rattle.base.specs.Lowest.{lowest, someBelow};
@@ -9,7 +9,7 @@ ghost use Rattle.table.specs.Tables.{noTask, noTable, tableOf};
 ghost use Rattle.table.specs.Answers.{numberOf, placeOf, declined, wrote};
 ghost use Rattle.table.specs.Windows.{reversed, contains, nested, windowAnswer};
 ghost use Rattle.table.specs.WindowColumns.{columnCrosses, columnForward, columnNesting, columnsAnswer, windowAt};
-ghost use Rattle.table.specs.Layout.{badCount, badPeriod, widestRow, rowsLength, fileLength};
+ghost use Rattle.table.specs.Layout.{badCount, badPeriod, widestRow, rowsLength, fileLength, heldBytes};
 use base::MAX_PERIOD;
 use base::MAX_TASKS;
 
@@ -29,6 +29,19 @@ pub const TASK_WIDTH: usize = 2 * FRAME_WIDTH + 2 * TICKS_WIDTH;
 
 // The most bytes of a file: those of as many tasks as a table has places. Definitions say maxFile.
 pub const MAX_FILE: usize = (HEADER_WIDTH + TASK_WIDTH * MAX_TASKS + 7) / 8;
+
+// What a program holds of its input: one byte more than the longest file has. Definitions say heldBytes.
+pub const HELD_BYTES: usize = MAX_FILE + 1;
+
+// How many bytes of an input of some length are held.
+pub fn held_of(length: usize) -> usize
+    ensures { λ r. ⌜ r ≡ min length heldBytes ⌝ }
+{
+    if HELD_BYTES < length {
+        return HELD_BYTES;
+    }
+    length
+}
 
 // A task: its window in frames, and its two lengths in ticks.
 #[repr(C)]

@@ -1,61 +1,11 @@
--- `planner::plan` meets its contract: reading's refusals end the call and touch no list; what the table gets is what the file gets.
-use mathlib.Core.Path.{_≡_, sym, ap, ap₂, subst⁻¹, _∙_}
+-- `planner::plan` meets its contract: the demands follow from the reply and from what the lists hold.
 use borrow.Author.Needs.{needs}
-use lib.Dec.{eqb}
-use Rattle.table.specs.declared.Table.{Table}
-use Rattle.table.specs.declared.Answer.the-variants.{Accepted}
-use Rattle.table.specs.Answers.{numberOf, placeOf, isAccepted}
-use Rattle.table.specs.Reading.{tableIn, readAnswer}
-use Rattle.table.specs.Writing.{Legal}
-use Rattle.table.proofs.AnswerLaws.{told-refused, refused-number}
-use Rattle.table.proofs.RoundTrip.{read-legal, read-answer, read-is}
-use Rattle.plans.specs.declared.Planned.{Planned}
-use Rattle.plans.specs.Planning.{LentLists, planDeclined, planTable, listsAfter}
-use Rattle.plans.proofs.ReplyLaws.{lists-kept, file-refused, file-accepted, call-clauses}
+use Rattle.plans.proofs.ReplyLaws.{call-clauses}
 use Rattle.planner.proofs.plan.Statement.{statement}
 use Rattle.planner.proofs.plan.Tie as tie
 
--- past the `let .. else` the file is accepted, and the table read is that of the file
-accepted : (c : tie.After-enum-told) → readAnswer (c .before .before .before .before .before .before .before .before .args .file .now) ≡ Accepted
-accepted c = sym (read-answer _ _ (c .before .before .read .ensures)) ∙ c .enum-told .given .1
-
-table-is : (c : tie.After-enum-told) → c .before .before .read .result .table ≡ tableIn (c .before .before .before .before .before .before .before .before .args .file .now)
-table-is c = read-is _ _ (c .before .before .read .ensures) (accepted c)
-
--- the lists that are lent
-abbrev lent : (c : tie.Start) → LentLists
-lent c = record { marks = c .args .marks .now; starts = c .args .starts .now; ends = c .args .ends .now; tasks = c .args .tasks .now }
-
-read-requires : tie.Need-read-requires
-read-requires c κs = search needs
-
-enum-told : tie.Need-enum-told
-enum-told c = search needs
-
-number-requires : tie.Need-number-requires
-number-requires c κs = search needs
-
-place-requires : tie.Need-place-requires
-place-requires c κs = search needs
-
-declined-requires : tie.Need-declined-requires
-declined-requires c κs = search needs
-
-returns : tie.Need-returns
-returns c =
-    let start = c .before .before .before .before .before .before .before .before .before .before in
-    let file = start .args .file .now in
-    let answer = read-answer file _ (c .before .before .before .before .read .ensures) in
-    let bad = ap isAccepted (sym answer) ∙ told-refused (c .before .before .before .before .read .result .answer) (c .before .before .before .match .keys2) in
-    let says = c .declined .ensures ∙ ap₂ planDeclined (c .before .before .number .ensures ∙ ap numberOf answer) (c .before .place .ensures ∙ ap placeOf answer) in
-    call-clauses file (c .declined .result) (lent start) (lent start)
-    (record {
-      reply-is = says ∙ sym (file-refused file _ bad);
-      lists-are = lists-kept (tableIn file) (c .declined .result) (lent start) (ap (λ (p : Planned). eqb (p .number) 0) says ∙ refused-number (readAnswer file) bad);
-    })
-
-plan-table-requires : tie.Need-plan-table-requires
-plan-table-requires c κs = subst⁻¹ Legal (table-is (c .before .before .before .before .before)) (read-legal (c .before .before .before .before .before .before .before .before .before .before .before .before .before .args .file .now) (accepted (c .before .before .before .before .before)))
+plan-counted-requires : tie.Need-plan-counted-requires
+plan-counted-requires c κs = search needs
 
 same-length : tie.Need-same-length
 same-length c = search needs
@@ -69,32 +19,17 @@ same-length-3 c = search needs
 same-length-4 : tie.Need-same-length-4
 same-length-4 c = search needs
 
-returns-2 : tie.Need-returns-2
-returns-2 c =
-    let start = c .before .before .before .before .before .before .before .before .before .before .before .before .before .before .before .before .before .before .before .before .before .before in
-    let file = start .args .file .now in
-    let e = table-is (c .before .before .before .before .before .before .before .before .before .before .before .before .before .before) in
-    let made = c .before .before .before .before .before .before .before .before .plan-table in
-    call-clauses file (made .result) (lent start)
+returns : tie.Need-returns
+returns c =
+    let counted = c .before .before .before .before .before .before .before .before .before in
+    let start = counted .before .before .before .before .before .before .before .before .before .before in
+    let made = counted .plan-counted in
+    call-clauses (start .args .file .now) (made .result .reply)
+    (record { marks = start .args .marks .now; starts = start .args .starts .now; ends = start .args .ends .now; tasks = start .args .tasks .now })
     (record { marks = made .last .1 .0; starts = made .last .1 .1 .0; ends = made .last .1 .1 .1 .0; tasks = made .last .1 .1 .1 .1 .0 })
-    (record {
-      reply-is = made .ensures .0 ∙ (ap (λ (t : Table). planTable t (lent start)) e ∙ sym (file-accepted file _ (accepted (c .before .before .before .before .before .before .before .before .before .before .before .before .before .before))));
-      lists-are = made .ensures .1 ∙ ap (λ (t : Table). listsAfter t (made .result) (lent start)) e;
-    })
+    (record { reply-is = made .ensures .1 .0; lists-are = made .ensures .1 .1 })
 
 pub plan-spec : {M : Type 1} → statement M
 plan-spec =
     tie.close
-    (tie.spec
-    read-requires
-    enum-told
-    number-requires
-    place-requires
-    declined-requires
-    returns
-    plan-table-requires
-    same-length
-    same-length-2
-    same-length-3
-    same-length-4
-    returns-2)
+    (tie.spec plan-counted-requires same-length same-length-2 same-length-3 same-length-4 returns)

@@ -1,0 +1,156 @@
+-- Two freedoms that the judge leaves to a keep list and a run list: marks at optional parts of 0 ticks, and runs of one task that touch.
+use Prim.Native.Nat.{ℕ, _≤_, _<_}
+use mathlib.Core.Path.{_≡_, refl, sym, ap, _∙_}
+use mathlib.Core.List.{List, [], _∷_, _++_}
+use mathlib.Core.Bool.{Bool, not}
+use native.Mathlib.Omega.{arith}
+use lib.Dec.{leb, ltb, eqb}
+use lib.ListN.{length, getD}
+use borrow.Author.Tests.{leb-true, ltb-true, ltb-false, le-leb, lt-ltb}
+use Rattle.base.specs.Tests.{and}
+use Rattle.base.specs.Lowest.{someBelow}
+use Rattle.base.proofs.TestLaws.{cases, pick-same, and-again, and-none}
+use Rattle.base.proofs.LowestLaws as lowest-laws
+use Rattle.table.specs.declared.Table.{Table}
+use Rattle.table.specs.Answers.{isAccepted}
+use Rattle.table.specs.Reading.{tableIn, readAnswer}
+use Rattle.schedule.specs.declared.Job.{Job}
+use Rattle.schedule.specs.declared.Run.{Run}
+use Rattle.schedule.specs.Jobs.{jobAt, workOf, counts}
+use Rattle.schedule.specs.Runs.{runOf, badColumns, runsOf}
+use Rattle.schedule.specs.Judging.{noneEmpty, followFrom, inOrder, knownTasks, inWindows, totalOf, exactTotals, verdict}
+use Rattle.schedule.specs.Judging.{keptCount, discardedCount, firstBadMark, judgeSays, judgeTable, judged, SameAtParts, EquallyGood}
+use Rattle.schedule.proofs.TickLaws.{count-same}
+
+-- 'A mark of 1 or 0 for an optional part of 0 ticks is equally good.'
+
+-- one job: the work is the same, and so is whether the mark enters a count
+work-free : (job : Job) (mark other : ℕ) → (0 < job .optional → mark ≡ other) → workOf job mark ≡ workOf job other
+work-free job mark other h =
+    cases (counts job)
+    (λ c. rw (h (ltb-true 0 (job .optional) c)))
+    (λ c. let z : job .optional ≡ 0 = omega (arith, ltb-false 0 (job .optional) c) in simp (z, pick-same))
+
+count-free : (job : Job) (mark other v : ℕ) → (0 < job .optional → mark ≡ other) → and (counts job) (eqb mark v) ≡ and (counts job) (eqb other v)
+count-free job mark other v h = cases (counts job) (λ c. rw (h (ltb-true 0 (job .optional) c))) (λ c. rw c)
+
+-- each task's runs total its work: tests that agree at every task
+exact-free : (t : Table) (marks other : List ℕ) (runs : List Run) → SameAtParts t marks other
+    → exactTotals (jobAt t) marks (t .count) runs ≡ exactTotals (jobAt t) other (t .count) runs
+unfolding exactTotals someBelow
+exact-free t marks other runs h =
+    let test : List ℕ → ℕ → Bool = λ list k. not (eqb (totalOf runs k) (workOf (jobAt t k) (getD list k 0))) in
+    ap (λ (k : ℕ). not (ltb k (t .count)))
+    (lowest-laws.same (test marks) (test other) (t .count)
+    (λ k l. ap (λ (work : ℕ). not (eqb (totalOf runs k) work)) (work-free (jobAt t k) (getD marks k 0) (getD other k 0) (h k l))))
+
+-- marks at optional parts of 0 ticks are free: whatever they are, the lists are equally good
+pub zero-marks-free : (t : Table) (marks other : List ℕ) (runs : List Run) → SameAtParts t marks other → EquallyGood t marks other runs
+unfolding verdict keptCount discardedCount
+zero-marks-free t marks other runs h =
+    let enters : List ℕ → ℕ → ℕ → Bool = λ list v k. and (counts (jobAt t k)) (eqb (getD list k 0) v) in
+    let same : (v k : ℕ) → k < t .count → enters marks v k ≡ enters other v k = λ v k l. count-free (jobAt t k) (getD marks k 0) (getD other k 0) v (h k l) in
+    record {
+      yes = rw (exact-free t marks other runs h);
+      kept = count-same (enters marks 1) (enters other 1) (t .count) (same 1);
+      discarded = count-same (enters marks 0) (enters other 0) (t .count) (same 0);
+    }
+
+-- so the judge, where it refuses nothing, says the same of both
+pub zero-marks-says : (t : Table) (marks other : List ℕ) (runs : List Run) → SameAtParts t marks other
+    → judgeSays (verdict t marks runs) (keptCount t marks) (discardedCount t marks)
+    ≡ judgeSays (verdict t other runs) (keptCount t other) (discardedCount t other)
+zero-marks-says t marks other runs h =
+    let good = zero-marks-free t marks other runs h in
+    rw (good .yes, good .kept, good .discarded)
+
+-- the reply of a judge that refuses nothing
+table-says : (t : Table) (marks starts ends tasks : List ℕ) → judgeTable t marks starts ends tasks .number ≡ 0
+    → judgeTable t marks starts ends tasks ≡ judgeSays (verdict t marks (runsOf starts ends tasks)) (keptCount t marks) (discardedCount t marks)
+unfolding judgeTable
+table-says t marks starts ends tasks =
+    cases (not (eqb (length marks) (t .count)))
+    (λ e. rw e (λ z. absurd (omega arith)))
+    (λ e.
+    rw e
+    (cases (ltb (firstBadMark marks (t .count)) (t .count))
+    (λ f. rw f (λ z. absurd (omega arith)))
+    (λ f. rw f (cases (badColumns starts ends tasks) (λ g. rw g (λ z. absurd (omega arith))) (λ g. rw g (λ z. refl))))))
+
+-- and where it refuses neither list, its two replies are one
+pub zero-marks-judged : (file marks other starts ends tasks : List ℕ) → SameAtParts (tableIn file) marks other
+    → judged file marks starts ends tasks .number ≡ 0 → judged file other starts ends tasks .number ≡ 0
+    → judged file marks starts ends tasks ≡ judged file other starts ends tasks
+unfolding judged
+zero-marks-judged file marks other starts ends tasks h =
+    let t = tableIn file in
+    cases (isAccepted (readAnswer file))
+    (λ e.
+    rw e
+    (λ a b.
+    table-says t marks starts ends tasks a
+    ∙ (zero-marks-says t marks other (runsOf starts ends tasks) h ∙ sym (table-says t other starts ends tasks b))))
+    (λ e. rw e (λ a b. refl))
+
+-- 'Two runs of one task may touch.'
+
+-- A run from s to e is cut at m, and stands between other runs. Each condition of the verdict by itself.
+module _ (s m e k : ℕ) (first : s < m) (second : m < e) (after : List Run) where
+  nonempty-cut : (before : List Run) → noneEmpty (before ++ runOf s e k ∷ after) ≡ noneEmpty (before ++ runOf s m k ∷ runOf m e k ∷ after)
+  unfolding noneEmpty
+  nonempty-cut [] = rw (lt-ltb s e (omega arith), lt-ltb s m first, lt-ltb m e second)
+  nonempty-cut (run ∷ before) = rw (nonempty-cut before)
+
+  follow-cut : (from : ℕ) (before : List Run)
+      → followFrom from (before ++ runOf s e k ∷ after) ≡ followFrom from (before ++ runOf s m k ∷ runOf m e k ∷ after)
+  unfolding followFrom
+  follow-cut from [] = rw (le-leb m m (omega arith))
+  follow-cut from (run ∷ before) = rw (follow-cut (run .end) before)
+
+  known-cut : (n : ℕ) (before : List Run)
+      → knownTasks n (before ++ runOf s e k ∷ after) ≡ knownTasks n (before ++ runOf s m k ∷ runOf m e k ∷ after)
+  unfolding knownTasks
+  known-cut n [] = sym (and-again (ltb k n) (knownTasks n after))
+  known-cut n (run ∷ before) = rw (known-cut n before)
+
+  -- one window: the whole run is in it exactly where both parts are
+  window-cut : (lo hi : ℕ) (rest : Bool)
+      → and (and (leb lo s) (leb e hi)) rest ≡ and (and (leb lo s) (leb m hi)) (and (and (leb lo m) (leb e hi)) rest)
+  window-cut lo hi rest =
+      cases (leb lo s)
+      (λ a.
+      let low : lo ≤ s = leb-true lo s a in
+      rw (a, le-leb lo m (omega arith))
+      (cases (leb e hi)
+      (λ b. let high : e ≤ hi = leb-true e hi b in rw (b, le-leb m hi (omega arith)))
+      (λ b. rw (b, and-none (leb m hi)))))
+      (λ a. rw a)
+
+  windows-cut : (job : ℕ → Job) (before : List Run)
+      → inWindows job (before ++ runOf s e k ∷ after) ≡ inWindows job (before ++ runOf s m k ∷ runOf m e k ∷ after)
+  unfolding inWindows
+  windows-cut job [] = window-cut (job k .release) (job k .deadline) (inWindows job after)
+  windows-cut job (run ∷ before) = rw (windows-cut job before)
+
+  total-cut : (before : List Run) (i : ℕ) → totalOf (before ++ runOf s e k ∷ after) i ≡ totalOf (before ++ runOf s m k ∷ runOf m e k ∷ after) i
+  unfolding totalOf
+  total-cut [] i = cases (eqb k i) (λ t. rw t (omega arith)) (λ t. rw t (omega arith))
+  total-cut (run ∷ before) i = rw (total-cut before i)
+
+  exact-cut : (job : ℕ → Job) (marks : List ℕ) (n : ℕ) (before : List Run)
+      → exactTotals job marks n (before ++ runOf s e k ∷ after) ≡ exactTotals job marks n (before ++ runOf s m k ∷ runOf m e k ∷ after)
+  unfolding exactTotals
+  exact-cut job marks n before = simp (total-cut before)
+
+-- a run cut in two that touch is judged as the whole one
+pub touching-runs-free : (t : Table) (marks : List ℕ) (before after : List Run) (s m e k : ℕ) → s < m → m < e
+    → verdict t marks (before ++ runOf s e k ∷ after) ≡ verdict t marks (before ++ runOf s m k ∷ runOf m e k ∷ after)
+unfolding verdict inOrder
+touching-runs-free t marks before after s m e k first second =
+    rw (
+      nonempty-cut s m e k first second after before,
+      follow-cut s m e k first second after 0 before,
+      known-cut s m e k first second after (t .count) before,
+      windows-cut s m e k first second after (jobAt t) before,
+      exact-cut s m e k first second after (jobAt t) marks (t .count) before,
+    )
