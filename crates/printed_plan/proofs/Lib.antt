@@ -1,4 +1,2 @@
-pub mod PutLaws
-pub mod DecimalLaws
 pub mod LineLaws
 pub mod TextLaws

@@ -1,4 +1,4 @@
--- Laws of lines: what is left of a text at a place of the list that it is printed from.
+-- Laws of a plan's lines: what is left of them at a place of the list that they are printed from.
 use Prim.Native.Nat.{ℕ, _+_, _-_, _≤_, _<_}
 use mathlib.Core.Path.{_≡_, refl, sym, ap}
 use mathlib.Core.List.{List, [], _∷_, _++_}
@@ -9,14 +9,10 @@ use lib.Seq.{drop-cons}
 use borrow.Author.Tests.{ne-eqb}
 use Rattle.base.specs.Places.{placesFrom}
 use Rattle.base.proofs.PlaceLaws.{left-start, left-step, left-end}
+use Rattle.lines.specs.Text.{line}
 use Rattle.schedule.specs.declared.Run.{Run}
 use Rattle.schedule.specs.Runs.{runAt, runsOf}
-use Rattle.printed_plan.specs.Printing.{space, newline, planWord, planLines, decimal, fields, line, dropWord, dropsFrom, dropLines, runLine, runLines}
-
--- the parts of a line
-pub line-length : (word numbers : List ℕ) → length (line word numbers) ≡ length word + length (fields numbers) + 1
-unfolding line
-line-length word numbers = omega (arith, length-append (word ++ fields numbers) (newline ∷ []), length-append word (fields numbers))
+use Rattle.printed_plan.specs.Printing.{planWord, planLines, dropWord, dropsFrom, dropLines, runLine, runLines}
 
 -- the parts of a plan's text
 pub plan-length : (tasks kept discarded : ℕ) (marks : List ℕ) (runs : List Run)
@@ -26,22 +22,6 @@ unfolding planLines
 plan-length tasks kept discarded marks runs =
     let head = line planWord (tasks ∷ kept ∷ discarded ∷ []) in
     omega (arith, length-append (head ++ dropLines marks) (runLines runs), length-append head (dropLines marks))
-
--- the fields of the numbers from place i on
-unfoldable pub fieldsLeft : List ℕ → ℕ → List ℕ
-fieldsLeft numbers i = fields (drop i numbers)
-
-pub fields-start : (numbers : List ℕ) → fields numbers ≡ fieldsLeft numbers 0
-unfolding fieldsLeft
-fields-start numbers = refl
-
-pub fields-step : (numbers : List ℕ) (i : ℕ) → i < length numbers → fieldsLeft numbers i ≡ (space ∷ decimal (getD numbers i 0)) ++ fieldsLeft numbers (i + 1)
-unfolding fieldsLeft fields
-fields-step numbers i h = rw (drop-cons numbers i 0 h, add-one i)
-
-pub fields-end : (numbers : List ℕ) (i : ℕ) → length numbers ≤ i → fieldsLeft numbers i ≡ []
-unfolding fieldsLeft fields
-fields-end numbers i h = rw (drop-of-length-le numbers {i = i} h)
 
 -- the DROP lines of the positions from k on
 unfoldable pub dropsLeft : List ℕ → ℕ → List ℕ

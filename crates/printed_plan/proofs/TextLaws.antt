@@ -11,14 +11,16 @@ use lib.Seq.{take-all}
 use borrow.Author.Tests.{eqb-true, eqb-false, ne-eqb, le-ltb}
 use Rattle.base.specs.Limits.{maxTasks, maxPlanRuns}
 use Rattle.base.proofs.TestLaws.{cases, pick-cases}
-use Rattle.bits.specs.Bits.{bytesFor}
-use Rattle.table.specs.Layout.{taskStart, fileLength, maxFile}
+use Rattle.lines.specs.Text.{decimalWithin, decimal, fields, line}
+use Rattle.lines.specs.Putting.{Put}
+use Rattle.lines.proofs.PutLaws.{put-front}
+use Rattle.lines.proofs.LineLaws.{line-few}
+use Rattle.table.specs.Layout.{maxFile, heldBytes, Holds}
 use Rattle.table.specs.Answers.{numberOf, placeOf, isAccepted}
-use Rattle.table.specs.Reading.{countIn, tableIn, readAnswer}
+use Rattle.table.specs.Reading.{tableIn, readAnswer, reading}
 use Rattle.table.proofs.AnswerLaws.{refused-number}
 use Rattle.table.proofs.FileLaws.{legal-count}
 use Rattle.table.proofs.PrefixLaws.{long-refused, read-prefix}
-use Rattle.table.proofs.RoundTrip.{tableIn-count, read-length}
 use Rattle.schedule.specs.declared.Run.{Run}
 use Rattle.schedule.specs.Runs.{runsOf}
 use Rattle.plans.specs.declared.Planned.{Planned}
@@ -26,22 +28,10 @@ use Rattle.plans.specs.Planning.{LentLists, planMarks, planRuns, planDeclined, 
 use Rattle.schedule.proofs.ColumnLaws.{columns-runs}
 use Rattle.plans.proofs.PlanLaws.{Plannable, marks-length, plan-few}
 use Rattle.plans.proofs.ReplyLaws.{Replied, file-refused, plan-made, made, runs-are, marks-taken, starts-taken, ends-taken, tasks-taken}
-use Rattle.printed_plan.specs.Putting.{Put}
-use Rattle.printed_plan.specs.Printing.{planWord, dropWord, runWord, refusedWord, decimalWithin, decimal, fields, line, dropsFrom, dropLines, runLine, runLines, planLines, planText, refusalText, longReply, printed, maxLine, maxText, printLength, printedOver}
-use Rattle.printed_plan.proofs.PutLaws.{put-front}
-use Rattle.printed_plan.proofs.DecimalLaws.{decimal-length}
-use Rattle.printed_plan.proofs.LineLaws.{line-length, plan-length}
+use Rattle.printed_plan.specs.Printing.{planWord, dropWord, runWord, refusedWord, dropsFrom, dropLines, runLine, runLines, planLines, planText, refusalText, longReply, printed, maxLine, maxText, printLength, printedOver, Prints}
+use Rattle.printed_plan.proofs.LineLaws.{plan-length}
 
--- a number takes at most 21 bytes with its space
-fields-length : (numbers : List ℕ) → length (fields numbers) ≤ 21 * length numbers
-unfolding fields
-fields-length [] = omega arith
-fields-length (n ∷ numbers) = omega (arith, length-append (decimal n) (fields numbers), decimal-length n, fields-length numbers)
-
--- a line of a word and its numbers
-line-few : (word numbers : List ℕ) → length (line word numbers) ≤ length word + 21 * length numbers + 1
-line-few word numbers = omega (arith, line-length word numbers, fields-length numbers)
-
+-- the DROP lines and the RUN lines
 drops-length : (k : ℕ) (marks : List ℕ) → length (dropsFrom k marks) ≤ maxLine * length marks
 unfolding dropsFrom
 drops-length k [] = omega arith
@@ -97,13 +87,10 @@ printed-refused file reply e z = rw (← e, ne-eqb (reply .number) 0 z)
 
 -- What is printed of a plan, from the lists that the plan call wrote.
 module _ (file : List ℕ) (reply : Planned) (old new : LentLists) (r : Replied file reply old new) (zero-is : reply .number ≡ 0) where
-  -- the file has bytes to read the count from
-  pub file-bits : 4 ≤ length file
-  unfolding fileLength bytesFor taskStart
-  file-bits =
-      let p = made file reply old new r zero-is .made in
-      let some : 0 < countIn file = rw (← tableIn-count file) (legal-count (p .legal) .0) in
-      rw (read-length file (p .accepted)) (omega arith)
+  -- the count of the table that was read is that of the file's table
+  pub count-read : (count : ℕ) → count ≡ reading file .table .count → count ≡ tableIn file .count
+  unfolding reading
+  count-read count e = e ∙ rw (made file reply old new r zero-is .made .accepted)
 
   -- the plan fits into the lists
   pub count-fits : tableIn file .count ≤ maxTasks
@@ -152,29 +139,25 @@ printed-unread file e =
     printed-refused file (planDeclined (numberOf (readAnswer file)) (placeOf (readAnswer file))) (sym (file-refused file _ e))
     (eqb-false (numberOf (readAnswer file)) 0 (refused-number (readAnswer file) e))
 
--- What is printed of a file follows from its first maxFile + 1 bytes, which are 501.
-pub printed-prefix : (file : List ℕ) → printed (take (maxFile + 1) file) ≡ printed file
+-- What is printed of a file follows from its first bytes, as many as a program holds: 501.
+pub printed-prefix : (file : List ℕ) → printed (take heldBytes file) ≡ printed file
 printed-prefix file =
     elim (decLt maxFile (length file)) [
       | yes h ↦
           let same = read-prefix file in
           let bad = long-refused file h in
-          sym (printed-unread (take (maxFile + 1) file) (ap isAccepted same ∙ bad))
+          sym (printed-unread (take heldBytes file) (ap isAccepted same ∙ bad))
           ∙ (ap₂ refusalText (ap numberOf same) (ap placeOf same) ∙ printed-unread file bad)
-      | no h ↦ ap printed (take-all (maxFile + 1) file (omega arith))
+      | no h ↦ ap printed (take-all heldBytes file (omega arith))
     ]
 
--- The text of document 01's example, from its counts, marks and runs.
-abbrev run : ℕ → ℕ → ℕ → Run
-run start end task = record { start = start; end = end; task = task }
-
-pub example-text : planLines 3 2 1 (1 ∷ 0 ∷ 1 ∷ []) (run 2 4 0 ∷ run 4 6 2 ∷ run 6 7 0 ∷ run 7 8 1 ∷ run 8 10 0 ∷ [])
-    ≡ 80 ∷ 76 ∷ 65 ∷ 78 ∷ 32 ∷ 51 ∷ 32 ∷ 50 ∷ 32 ∷ 49 ∷ 10
-    ∷ 68 ∷ 82 ∷ 79 ∷ 80 ∷ 32 ∷ 49 ∷ 10
-    ∷ 82 ∷ 85 ∷ 78 ∷ 32 ∷ 50 ∷ 32 ∷ 52 ∷ 32 ∷ 48 ∷ 10
-    ∷ 82 ∷ 85 ∷ 78 ∷ 32 ∷ 52 ∷ 32 ∷ 54 ∷ 32 ∷ 50 ∷ 10
-    ∷ 82 ∷ 85 ∷ 78 ∷ 32 ∷ 54 ∷ 32 ∷ 55 ∷ 32 ∷ 48 ∷ 10
-    ∷ 82 ∷ 85 ∷ 78 ∷ 32 ∷ 55 ∷ 32 ∷ 56 ∷ 32 ∷ 49 ∷ 10
-    ∷ 82 ∷ 85 ∷ 78 ∷ 32 ∷ 56 ∷ 32 ∷ 49 ∷ 48 ∷ 32 ∷ 48 ∷ 10 ∷ []
-unfolding planLines line fields decimal decimalWithin dropLines dropsFrom runLines runLine
-example-text = refl
+-- So of an input that is held: what is printed of the bytes held is what is printed of the input.
+pub held-printed : (held : List ℕ) (n : ℕ) (input out : List ℕ) (bytes : ℕ) (new : List ℕ) → maxText ≤ length out
+    → bytes ≡ printLength (take n held) (length out) → new ≡ printedOver (take n held) out → Holds held n input → Prints input out bytes new
+unfolding printLength printedOver
+held-printed held n input out bytes new room b c h =
+    let same : printed (take n held) ≡ printed input = ap printed h ∙ printed-prefix input in
+    record {
+      bytes-are = b ∙ rw (le-ltb (length out) maxText room, same);
+      content = c ∙ rw (le-ltb (length out) maxText room, same);
+    }

@@ -1,26 +1,18 @@
 -- The printed plan, as the bytes of its text: document 01, 'The printed plan'.
-use Prim.Native.Nat.{ℕ, zero, suc, _+_, _*_, _/_, _%_}
+use Prim.Native.Nat.{ℕ, suc, _+_, _*_}
+use mathlib.Core.Path.{_≡_}
 use mathlib.Core.List.{List, [], _∷_, _++_}
 use lib.Dec.{ltb, eqb}
 use lib.ListN.{length}
 use Rattle.base.specs.Limits.{maxTasks, maxPlanRuns}
 use Rattle.base.specs.Tests.{pick}
 use Rattle.base.specs.Lent.{writtenFront}
+use Rattle.lines.specs.Text.{line, maxField}
 use Rattle.table.specs.declared.Table.{Table}
 use Rattle.table.specs.Reading.{tableIn}
 use Rattle.schedule.specs.declared.Run.{Run}
 use Rattle.plans.specs.declared.Planned.{Planned}
 use Rattle.plans.specs.Planning.{planMarks, planRuns, planOf, listsFor, planReply}
-
--- the bytes in ASCII: a space, a newline, a digit
-abbrev pub space : ℕ
-space = 32
-
-abbrev pub newline : ℕ
-newline = 10
-
-abbrev pub digit : ℕ → ℕ
-digit d = 48 + d
 
 -- the words PLAN, DROP, RUN and REFUSED
 abbrev pub planWord : List ℕ
@@ -34,24 +26,6 @@ runWord = 82 ∷ 85 ∷ 78 ∷ []
 
 abbrev pub refusedWord : List ℕ
 refusedWord = 82 ∷ 69 ∷ 70 ∷ 85 ∷ 83 ∷ 69 ∷ 68 ∷ []
-
--- a number's decimal digits, most significant first and with no zero in front; at most one more than `more`, the last ones of a longer number
-unfoldable pub decimalWithin : ℕ → ℕ → List ℕ
-decimalWithin zero n = digit (n % 10) ∷ []
-decimalWithin (suc more) n = pick (ltb n 10) (digit n ∷ []) (decimalWithin more (n / 10) ++ digit (n % 10) ∷ [])
-
--- the decimal digits of a number below 10 ^ 20, and so of every number of 64 bits
-unfoldable pub decimal : ℕ → List ℕ
-decimal n = decimalWithin 19 n
-
--- the fields of a line: before each number a space
-unfoldable pub fields : List ℕ → List ℕ
-fields [] = []
-fields (n ∷ numbers) = space ∷ decimal n ++ fields numbers
-
--- a line: a word, its numbers, a newline
-unfoldable pub line : List ℕ → List ℕ → List ℕ
-line word numbers = word ++ fields numbers ++ newline ∷ []
 
 -- a DROP line for each mark 0 of a keep list whose first mark is that of position k; the positions rise
 unfoldable pub dropsFrom : ℕ → List ℕ → List ℕ
@@ -91,9 +65,9 @@ printed file =
     pick (eqb (longReply file .number) 0) (planText (tableIn file))
     (refusalText (longReply file .number) (longReply file .place))
 
--- no line is longer: a word of at most 7 bytes, 3 numbers of at most 20 digits, each with a space, and a newline
+-- no line is longer: a word of at most 7 bytes, 3 numbers, each with a space, and a newline
 abbrev pub maxLine : ℕ
-maxLine = 7 + 3 * 21 + 1
+maxLine = 7 + 3 * maxField + 1
 
 -- no text is longer: the PLAN line, a DROP line for each task and a RUN line for each run
 abbrev pub maxText : ℕ
@@ -106,3 +80,8 @@ printLength file room = pick (ltb room maxText) 0 (length (printed file))
 -- what a lent list holds after that
 unfoldable pub printedOver : List ℕ → List ℕ → List ℕ
 printedOver file out = pick (ltb (length out) maxText) out (writtenFront (printed file) out)
+
+-- the text printed of an input stands at the front of a lent list, and has so many bytes
+pub record Prints (input old : List ℕ) (bytes : ℕ) (new : List ℕ) : Type 0 where
+  pub bytes-are : bytes ≡ length (printed input)
+  pub content : new ≡ writtenFront (printed input) old

@@ -1,86 +1,23 @@
 // The printed plan: the text of a file's plan or refusal, as bytes in a lent list.
 ghost use mathlib.Core.Path.{_≡_};
-ghost use mathlib.Core.List.{[], _∷_};
-ghost use Prim.Native.Nat.{_+_, _≤_, _<_};
+ghost use mathlib.Core.List.{List, [], _∷_};
+ghost use Prim.Native.Nat.{ℕ, _+_, _≤_};
 ghost use lib.ListN.{length};
+ghost use Rattle.table.specs.Layout.{Holds};
 ghost use Rattle.schedule.specs.Runs.{runsOf};
-ghost use Rattle.printed_plan.specs.Putting.{Put};
-ghost use Rattle.printed_plan.specs.Printing.{decimal, fields, line, dropWord, dropLines, runWord, runLines, planLines, refusalText, printLength, printedOver};
+ghost use Rattle.lines.specs.Putting.{Put};
+ghost use Rattle.lines.specs.Text.{line};
+ghost use Rattle.printed_plan.specs.Printing.{dropWord, dropLines, runWord, runLines, planLines, refusalText, printLength, printedOver, Prints};
 use base::MAX_PLAN_RUNS;
 use base::MAX_TASKS;
+use lines::MAX_FIELD;
+use table::HELD_BYTES;
 
-// No line is longer: a word of at most 7 bytes, 3 numbers of at most 20 digits, each with a space, and a newline; definitions say maxLine.
-const MAX_LINE: usize = 7 + 3 * 21 + 1;
+// No line is longer: a word of at most 7 bytes, 3 numbers, each with a space, and a newline; definitions say maxLine.
+const MAX_LINE: usize = 7 + 3 * MAX_FIELD + 1;
 
 // No text is longer: the PLAN line, a DROP line for each task and a RUN line for each run; definitions say maxText.
 pub const MAX_TEXT: usize = (1 + MAX_TASKS + MAX_PLAN_RUNS) * MAX_LINE;
-
-// The bytes between two fields and at the end of a line, and that of the digit 0.
-const SPACE: u8 = 32;
-
-const NEWLINE: u8 = 10;
-
-const ZERO: u8 = 48;
-
-// One byte put at a place.
-fn put_byte(out: &mut [u8], at: usize, byte: u8) -> usize
-    requires { ⌜ at < length (now out) ⌝ }
-    ensures { λ r. ⌜ Put (byte ∷ []) at (now (out .entry)) r (now (out .exit)) ⌝ }
-{
-    out[at] = byte;
-    at + 1
-}
-
-// A word put at a place.
-fn put_word(out: &mut [u8], at: usize, word: &[u8]) -> usize
-    requires { ⌜ at + length (now word) ≤ length (now out) ⌝ }
-    ensures { λ r. ⌜ Put (now (word .entry)) at (now (out .entry)) r (now (out .exit)) ⌝ }
-{
-    let mut i: usize = 0;
-    while i < word.len() {
-        out[at + i] = word[i];
-        i += 1;
-    }
-    at + word.len()
-}
-
-// A number's decimal digits put at a place: those of its tenth, and then the last one.
-fn put_decimal(out: &mut [u8], at: usize, n: u64) -> usize
-    requires { ⌜ at + length (decimal n) ≤ length (now out) ⌝ }
-    ensures { λ r. ⌜ Put (decimal n) at (now (out .entry)) r (now (out .exit)) ⌝ }
-{
-    let last = ZERO + (n % 10) as u8;
-    if n < 10 {
-        return put_byte(out, at, last);
-    }
-    let next = put_decimal(out, at, n / 10);
-    put_byte(out, next, last)
-}
-
-// Numbers put at a place, each with a space before it.
-fn put_fields(out: &mut [u8], at: usize, numbers: &[u64]) -> usize
-    requires { ⌜ at + length (fields (now numbers)) ≤ length (now out) ⌝ }
-    ensures { λ r. ⌜ Put (fields (now (numbers .entry))) at (now (out .entry)) r (now (out .exit)) ⌝ }
-{
-    let mut next = at;
-    let mut i: usize = 0;
-    while i < numbers.len() {
-        let digits = put_byte(out, next, SPACE);
-        next = put_decimal(out, digits, numbers[i]);
-        i += 1;
-    }
-    next
-}
-
-// A line put at a place: a word, its numbers, a newline.
-fn put_line(out: &mut [u8], at: usize, word: &[u8], numbers: &[u64]) -> usize
-    requires { ⌜ at + length (line (now word) (now numbers)) ≤ length (now out) ⌝ }
-    ensures { λ r. ⌜ Put (line (now (word .entry)) (now (numbers .entry))) at (now (out .entry)) r (now (out .exit)) ⌝ }
-{
-    let first = put_word(out, at, word);
-    let end = put_fields(out, first, numbers);
-    put_byte(out, end, NEWLINE)
-}
 
 // The DROP line of a position.
 fn put_drop(out: &mut [u8], at: usize, position: usize) -> usize
@@ -88,7 +25,7 @@ fn put_drop(out: &mut [u8], at: usize, position: usize) -> usize
     ensures { λ r. ⌜ Put (line dropWord (position ∷ [])) at (now (out .entry)) r (now (out .exit)) ⌝ }
 {
     let numbers = [position as u64];
-    put_line(out, at, b"DROP", &numbers)
+    lines::put_line(out, at, b"DROP", &numbers)
 }
 
 // The DROP lines of a keep list: one for each mark 0, rising.
@@ -113,7 +50,7 @@ fn put_run(out: &mut [u8], at: usize, start: u32, end: u32, task: u32) -> usize
     ensures { λ r. ⌜ Put (line runWord (start ∷ end ∷ task ∷ [])) at (now (out .entry)) r (now (out .exit)) ⌝ }
 {
     let numbers = [start as u64, end as u64, task as u64];
-    put_line(out, at, b"RUN", &numbers)
+    lines::put_line(out, at, b"RUN", &numbers)
 }
 
 // The RUN lines of runs in three columns.
@@ -148,7 +85,7 @@ fn put_plan(
         0 (now (out .entry)) r (now (out .exit)) ⌝ }
 {
     let numbers = [count as u64, kept as u64, discarded as u64];
-    let drops = put_line(out, 0, b"PLAN", &numbers);
+    let drops = lines::put_line(out, 0, b"PLAN", &numbers);
     let runs = put_drops(out, drops, marks);
     put_runs(out, runs, starts, ends, tasks)
 }
@@ -159,7 +96,7 @@ fn put_refusal(out: &mut [u8], number: u32, place: usize) -> usize
     ensures { λ r. ⌜ Put (refusalText number place) 0 (now (out .entry)) r (now (out .exit)) ⌝ }
 {
     let numbers = [number as u64, place as u64];
-    put_line(out, 0, b"REFUSED", &numbers)
+    lines::put_line(out, 0, b"REFUSED", &numbers)
 }
 
 // Plans a file and prints its plan or its refusal at the front of a lent list; the number of bytes printed. A list shorter than MAX_TEXT is left
@@ -175,11 +112,12 @@ pub fn print(file: &[u8], out: &mut [u8]) -> usize
     let mut starts = [0u32; MAX_PLAN_RUNS];
     let mut ends = [0u32; MAX_PLAN_RUNS];
     let mut tasks = [0u32; MAX_PLAN_RUNS];
-    let reply = planner::plan(file, &mut marks, &mut starts, &mut ends, &mut tasks);
+    let planned = planner::plan_counted(file, &mut marks, &mut starts, &mut ends, &mut tasks);
+    let reply = planned.reply;
     if reply.number != 0 {
         return put_refusal(out, reply.number, reply.place);
     }
-    let count = reading::take_header(file).count;
+    let count = planned.count;
     let places = count as usize;
     let runs = reply.runs;
     put_plan(
@@ -192,4 +130,14 @@ pub fn print(file: &[u8], out: &mut [u8]) -> usize
         &ends[..runs],
         &tasks[..runs],
     )
+}
+
+// Prints what an input gets. The first `filled` places of `held` are its first bytes: the whole input, or as many as there are places. They settle what is
+// printed.
+pub fn print_held(held: [u8; HELD_BYTES], filled: usize, text: &mut [u8; MAX_TEXT]) -> usize
+    ensures printed { λ r. ⌜ ((input : List ℕ) → Holds held filled input → Prints input (now (text .entry)) r (now (text .exit))) ⌝ }
+    ensures within { λ r. ⌜ r ≤ length (now (text .exit)) ⌝ }
+{
+    let end = table::held_of(filled);
+    print(&held[..end], text)
 }

@@ -4,9 +4,7 @@
 // gets is printed, and a line between the files. A line that starts with `short` has a file that is printed into a list of 100 bytes.
 use libc::STDIN_FILENO;
 use report::MAX_TEXT;
-
-// The bytes that the program `plan` holds.
-const HELD: usize = 501;
+use table::HELD_BYTES;
 
 // Prints what a file gets.
 fn show(file: &[u8]) {
@@ -28,7 +26,7 @@ fn show_short(file: &[u8]) {
 // The case on a line that starts with a given byte.
 fn case(start: u8, line: &[u8]) {
     let each = (cases::number(line, 2) % 256) as u8;
-    let mut file = [each; HELD];
+    let mut file = [each; HELD_BYTES];
     let length = cases::file(line, 1, &mut file);
     if each != 0 {
         show(&file);

@@ -1,2 +1,3 @@
-pub mod TextLaws
 pub mod TextSamples
+pub mod TextRoundTrip
+pub mod TextLength

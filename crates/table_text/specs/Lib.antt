@@ -1,2 +1,3 @@
 pub mod TableText
+pub mod Conversions
 pub mod TextSamples

@@ -1,111 +1,104 @@
--- A table written by hand: from lines of text to a table value.
+-- A table as lines of text: which table a text says, and which text a table has.
 -- Line 1 has three numbers: task count, p, q. Then comes one line for each task, with four: release frame, deadline frame, mandatory ticks,
 -- optional ticks. Numbers are decimal and at most 999,999,999; blanks stand between them, and may stand at either end of a line. A line ends
 -- with a newline, which the last line may lack. After the last task there may be blank lines.
-use Prim.Native.Nat.{ℕ, _+_, _-_, _*_}
-use mathlib.Core.Bool.{Bool, true, false, not}
-use mathlib.Core.List.{List, [], _∷_}
+use Prim.Native.Nat.{ℕ, suc, _+_, _-_, _*_}
+use mathlib.Core.Bool.{Bool, not}
+use mathlib.Core.List.{List, [], _∷_, _++_}
 use lib.Dec.{leb, ltb, eqb}
-use lib.ListN.{getD, set, replicate}
+use lib.ListN.{length, getD}
 use Rattle.base.specs.Limits.{maxTasks}
 use Rattle.base.specs.Tests.{pick, and, or}
+use Rattle.base.specs.Lowest.{lowest}
+use Rattle.base.specs.Places.{places}
+use Rattle.lines.specs.Text.{decimal, line, maxField}
+use Rattle.lines.specs.Splitting.{linesOf, wordsOf, allNumbers, numbersOf}
+use Rattle.table.specs.declared.Task.{Task}
 use Rattle.table.specs.declared.Table.{Table}
-use Rattle.table.specs.Tables.{noTable, taskOf}
-use Rattle.table_text.specs.declared.Line.{Line}
-use Rattle.table_text.specs.declared.Scan.{Scan}
+use Rattle.table.specs.Tables.{noTable, tableOf, taskAt, taskOf}
 use Rattle.table_text.specs.declared.Parsed.{Parsed}
 
--- the bytes that mean something: a newline; the blanks space, tab and carriage return; the digits 0 to 9
-abbrev pub newline : ℕ
-newline = 10
+-- Reading a text.
 
-unfoldable pub isBlank : ℕ → Bool
-isBlank byte = or (eqb byte 32) (or (eqb byte 9) (eqb byte 13))
+-- line k of a text, from 1 on; a line beyond the last has nothing on it
+unfoldable pub lineAt : List ℕ → ℕ → List ℕ
+lineAt text k = getD (linesOf text) (k - 1) []
 
-unfoldable pub isDigit : ℕ → Bool
-isDigit byte = and (leb 48 byte) (leb byte 57)
+-- the numbers on line k
+unfoldable pub numbersAt : List ℕ → ℕ → List ℕ
+numbersAt text k = numbersOf (lineAt text k)
 
--- a line of which nothing was read
-unfoldable pub noLine : Line
-noLine = record { bad = false; seen = 0; numbers = replicate 4 0; reading = false; value = 0 }
+-- the task count, p and q that line 1 says
+unfoldable pub countSaid : List ℕ → ℕ
+countSaid text = getD (numbersAt text 1) 0 0
 
--- the line has what no line may have
-unfoldable pub spoiled : Line → Line
-spoiled l = record { bad = true; seen = l .seen; numbers = l .numbers; reading = l .reading; value = l .value }
+unfoldable pub pSaid : List ℕ → ℕ
+pSaid text = getD (numbersAt text 1) 1 0
 
--- a digit more of the number being read; a number above 999,999,999 spoils the line
-unfoldable pub withDigit : Line → ℕ → Line
-withDigit l digit =
-    pick (ltb 99_999_999 (l .value)) (spoiled l)
-    (record { bad = l .bad; seen = l .seen; numbers = l .numbers; reading = true; value = 10 * l .value + digit })
+unfoldable pub qSaid : List ℕ → ℕ
+qSaid text = getD (numbersAt text 1) 2 0
 
--- the number being read, where there is one, is the line's next; a fifth spoils the line
-unfoldable pub withNumber : Line → Line
-withNumber l =
-    pick (l .reading)
-    (pick (ltb (l .seen) 4)
-    (record { bad = l .bad; seen = l .seen + 1; numbers = set (l .numbers) (l .seen) (l .value); reading = false; value = 0 })
-    (spoiled l))
-    l
-
--- a byte more of the line, which is no newline: a digit, a blank, or another byte, which spoils the line
-unfoldable pub withByte : Line → ℕ → Line
-withByte l byte = pick (isDigit byte) (withDigit l (byte - 48)) (pick (isBlank byte) (withNumber l) (spoiled l))
-
--- how many numbers are due on a line, in a text for `count` tasks: three on line 1, four for each task, none after the last task
+-- how many numbers are due on line k, in a text for `count` tasks: three on line 1, four for each task, none after the last task
 unfoldable pub due : ℕ → ℕ → ℕ
-due line count = pick (leb line 1) 3 (pick (leb line (count + 1)) 4 0)
+due k count = pick (leb k 1) 3 (pick (leb k (count + 1)) 4 0)
 
--- what a table holds once a line is read: line 1 gives task count, p and q, and line k + 2 gives the task at position k.
--- Places there are 64: a task beyond them is not kept, and the count tells of it.
-unfoldable pub withLine : Table → ℕ → List ℕ → Table
-withLine t line numbers =
-    pick (leb line 1) (record { count = getD numbers 0 0; p = getD numbers 1 0; q = getD numbers 2 0; tasks = t .tasks })
-    (pick (and (leb line (t .count + 1)) (ltb (line - 2) maxTasks))
-    (record { count = t .count; p = t .p; q = t .q; tasks = set (t .tasks) (line - 2) (taskOf numbers) })
-    t)
+-- line k is wrong: a word on it is no number, or it has not as many numbers as are due
+unfoldable pub lineWrong : List ℕ → ℕ → Bool
+lineWrong text k = or (not (allNumbers (wordsOf (lineAt text k)))) (not (eqb (length (numbersAt text k)) (due k (countSaid text))))
 
--- the line ends: it is wrong where it is spoiled or has not as many numbers as are due; else its numbers go into the table
-unfoldable pub lineWrong : ℕ → ℕ → Line → Bool
-lineWrong line count l = or (l .bad) (not (eqb (l .seen) (due line count)))
+-- how many lines are looked at: those of the text, and the one after the last, which has nothing on it and is wrong where a task is missing
+unfoldable pub linesLooked : List ℕ → ℕ
+linesLooked text = suc (length (linesOf text))
 
-unfoldable pub endLine : Scan → Scan
-endLine s =
-    pick (lineWrong (s .line) (s .table .count) (withNumber (s .current)))
-    (record { line = s .line; wrong = s .line; table = s .table; current = s .current })
-    (record { line = s .line + 1; wrong = 0; table = withLine (s .table) (s .line) (withNumber (s .current) .numbers); current = noLine })
+-- how many lines stand before the first wrong one; all that are looked at, where none is wrong
+unfoldable pub rightLines : List ℕ → ℕ
+rightLines text = lowest (λ k. lineWrong text (suc k)) (linesLooked text)
 
--- a byte more of the text; after the first wrong line nothing more is read
-unfoldable pub step : Scan → ℕ → Scan
-step s byte =
-    pick (eqb (s .wrong) 0)
-    (pick (eqb byte newline) (endLine s)
-    (record { line = s .line; wrong = 0; table = s .table; current = withByte (s .current) byte }))
-    s
+-- the table that the lines say: line k + 2 has the task at position k
+unfoldable pub tableSaid : List ℕ → Table
+tableSaid text = tableOf (countSaid text) (pSaid text) (qSaid text) (λ k. taskOf (numbersAt text (k + 2)))
 
--- the bytes of a text one after another, from line 1 on
-unfoldable pub start : Scan
-start = record { line = 1; wrong = 0; table = noTable; current = noLine }
+-- what is found: the first wrong line, how many numbers are due there, and the table that is 0 throughout; where no line is wrong, the table
+abbrev pub wrongLine : ℕ → ℕ → Parsed
+wrongLine k count = record { line = k; due = due k count; table = noTable }
 
-unfoldable pub scanned : Scan → List ℕ → Scan
-scanned s [] = s
-scanned s (byte ∷ text) = scanned (step s byte) text
+abbrev pub rightTable : Table → Parsed
+rightTable t = record { line = 0; due = 0; table = t }
 
--- what is found at the end: the table, or the first wrong line, what was due there and the table that is 0 throughout
-unfoldable pub found : Scan → Parsed
-found s =
-    pick (eqb (s .wrong) 0) (record { line = 0; due = 0; table = s .table })
-    (record { line = s .wrong; due = due (s .wrong) (s .table .count); table = noTable })
-
--- a text is read as if two newlines followed it: the first ends a line that lacks its newline, and the second makes a blank line, which is
--- wrong where a line is missing
 unfoldable pub parsed : List ℕ → Parsed
-parsed text = found (step (step (scanned start text) newline) newline)
+parsed text =
+    pick (ltb (rightLines text) (linesLooked text)) (wrongLine (suc (rightLines text)) (countSaid text))
+    (rightTable (tableSaid text))
+
+-- Printing a table.
+
+-- the line of a table's task count, p and q
+unfoldable pub headLine : Table → List ℕ
+headLine t = line (decimal (t .count)) (t .p ∷ t .q ∷ [])
+
+-- the line of a task
+unfoldable pub taskLine : Task → List ℕ
+taskLine task = line (decimal (task .release)) (task .deadline ∷ task .mandatory ∷ task .optional ∷ [])
+
+unfoldable pub taskLines : List Task → List ℕ
+taskLines [] = []
+taskLines (task ∷ tasks) = taskLine task ++ taskLines tasks
+
+-- the text of a table
+unfoldable pub tableText : Table → List ℕ
+tableText t = headLine t ++ taskLines (places (taskAt t) (t .count))
+
+-- the most bytes of a table's text: no line is longer than four numbers, each with a byte behind it
+abbrev pub maxTableText : ℕ
+maxTableText = (1 + maxTasks) * (4 * maxField)
+
+-- Refusals of writing, told by line.
 
 -- a refusal of writing is about one task: 12, 6 and 7 are, and 2, 5 and 9 are not
 unfoldable pub aboutTask : ℕ → Bool
 aboutTask number = or (eqb number 12) (or (eqb number 6) (eqb number 7))
 
--- the line that a refusal of writing is about: line k + 2 where it is about the task at position k, and else line 1
+-- the line that a refusal of writing is about: line k + 2 where it is about the task at position k (a place of 64 or more is no position), and else
+-- line 1
 unfoldable pub refusedLine : ℕ → ℕ → ℕ
 refusedLine number place = pick (and (aboutTask number) (ltb place maxTasks)) (place + 2) 1

@@ -3,6 +3,7 @@ use Prim.Native.Nat.{ℕ}
 use mathlib.Core.List.{List, [], _∷_}
 use lib.ListN.{getD}
 use Rattle.table.specs.declared.Task.{Task}
+use Rattle.table.specs.declared.Table.{Table}
 use Rattle.table.specs.Tables.{noTask, noTable, tableOf}
 use Rattle.table_text.specs.declared.Parsed.{Parsed}
 
@@ -18,8 +19,8 @@ sample text gives = record { text = text; gives = gives }
 abbrev pub task : ℕ → ℕ → ℕ → ℕ → Task
 task release deadline mandatory optional = record { release = release; deadline = deadline; mandatory = mandatory; optional = optional }
 
-abbrev pub tableText : ℕ → ℕ → ℕ → List Task → Parsed
-tableText count p q tasks = record { line = 0; due = 0; table = tableOf count p q (λ k. getD tasks k noTask) }
+abbrev pub says : ℕ → ℕ → ℕ → List Task → Parsed
+says count p q tasks = record { line = 0; due = 0; table = tableOf count p q (λ k. getD tasks k noTask) }
 
 -- a wrong line, and how many numbers are due there
 abbrev pub wrongAt : ℕ → ℕ → Parsed
@@ -31,21 +32,21 @@ textSamples =
     sample (
     49 ∷ 32 ∷ 49 ∷ 48 ∷ 48 ∷ 32 ∷ 49 ∷ 10 ∷
     48 ∷ 32 ∷ 50 ∷ 32 ∷ 49 ∷ 48 ∷ 48 ∷ 32 ∷ 53 ∷ 48 ∷ 10 ∷ []
-    ) (tableText 1 100 1 (task 0 2 100 50 ∷ [])) ∷
+    ) (says 1 100 1 (task 0 2 100 50 ∷ [])) ∷
     -- P8, and the last line lacks its newline: `3 1 1`, `0 10 2 3`, `2 8 1 3`, `4 6 1 1`
     sample (
     51 ∷ 32 ∷ 49 ∷ 32 ∷ 49 ∷ 10 ∷
     48 ∷ 32 ∷ 49 ∷ 48 ∷ 32 ∷ 50 ∷ 32 ∷ 51 ∷ 10 ∷
     50 ∷ 32 ∷ 56 ∷ 32 ∷ 49 ∷ 32 ∷ 51 ∷ 10 ∷
     52 ∷ 32 ∷ 54 ∷ 32 ∷ 49 ∷ 32 ∷ 49 ∷ []
-    ) (tableText 3 1 1 (task 0 10 2 3 ∷ task 2 8 1 3 ∷ task 4 6 1 1 ∷ [])) ∷
+    ) (says 3 1 1 (task 0 10 2 3 ∷ task 2 8 1 3 ∷ task 4 6 1 1 ∷ [])) ∷
     -- P4 with tabs, spaces and carriage returns, and with blank lines at its end
     sample (
     32 ∷ 49 ∷ 9 ∷ 49 ∷ 48 ∷ 48 ∷ 32 ∷ 32 ∷ 49 ∷ 13 ∷ 10 ∷
     48 ∷ 32 ∷ 50 ∷ 32 ∷ 49 ∷ 48 ∷ 48 ∷ 32 ∷ 53 ∷ 48 ∷ 32 ∷ 13 ∷ 10 ∷
     10 ∷
     32 ∷ 10 ∷ []
-    ) (tableText 1 100 1 (task 0 2 100 50 ∷ [])) ∷
+    ) (says 1 100 1 (task 0 2 100 50 ∷ [])) ∷
     -- no text: line 1 is missing
     sample [] (wrongAt 1 3) ∷
     -- `1 100`: line 1 has two numbers
@@ -81,3 +82,14 @@ textSamples =
     48 ∷ 32 ∷ 50 ∷ 32 ∷ 49 ∷ 48 ∷ 48 ∷ 32 ∷ 53 ∷ 48 ∷ 10 ∷ []
     ) (wrongAt 3 0) ∷
     []
+
+-- P8's table, and its text: `3 1 1`, `0 10 2 3`, `2 8 1 3`, `4 6 1 1`
+unfoldable pub printedTable : Table
+printedTable = tableOf 3 1 1 (λ k. getD (task 0 10 2 3 ∷ task 2 8 1 3 ∷ task 4 6 1 1 ∷ []) k noTask)
+
+unfoldable pub printedText : List ℕ
+printedText =
+    51 ∷ 32 ∷ 49 ∷ 32 ∷ 49 ∷ 10 ∷
+    48 ∷ 32 ∷ 49 ∷ 48 ∷ 32 ∷ 50 ∷ 32 ∷ 51 ∷ 10 ∷
+    50 ∷ 32 ∷ 56 ∷ 32 ∷ 49 ∷ 32 ∷ 51 ∷ 10 ∷
+    52 ∷ 32 ∷ 54 ∷ 32 ∷ 49 ∷ 32 ∷ 49 ∷ 10 ∷ []

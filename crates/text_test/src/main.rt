@@ -87,7 +87,7 @@ fn show(parsed: Parsed) {
 fn refusal(line: &[u8]) {
     let number = cases::number(line, 1);
     let place = cases::number(line, 2) as usize;
-    let about = table_text::refused_line(number, place);
+    let about = text_reading::refused_line(number, place);
     cases::show(b" line #\n", &[about as u64]);
 }
 
@@ -104,7 +104,7 @@ fn case(start: u8, line: &[u8]) {
     let mut text = [0u8; 600];
     let behind = cases::start_of(line, 1);
     let length = unescape(&line[behind..], &mut text);
-    show(table_text::parse(&text[..length]));
+    show(text_reading::parse(&text[..length]));
 }
 
 // The cases of a text, line by line.

@@ -4,8 +4,9 @@ use mathlib.Core.Logic.{⊎-elim}
 use mathlib.Core.List.{[], _∷_, _++_}
 use native.Mathlib.Omega.{arith}
 use lib.ListN.{length}
-use Rattle.printed_plan.specs.Printing.{line, dropWord, dropLines}
-use Rattle.printed_plan.proofs.PutLaws.{Putting, putting-start, putting-room, putting-fits, putting-step, putting-end}
+use Rattle.lines.specs.Text.{line}
+use Rattle.printed_plan.specs.Printing.{dropWord, dropLines}
+use Rattle.lines.proofs.PutLaws.{Putting, putting-start, putting-room, putting-fits, putting-step, putting-end}
 use Rattle.printed_plan.proofs.LineLaws.{dropsLeft, drops-start, drops-step, drops-skip, drops-end}
 use Rattle.report.proofs.put_drops.Statement.{statement}
 use Rattle.report.proofs.put_drops.Tie as tie

@@ -3,7 +3,7 @@ use native.Mathlib.Omega.{arith}
 use borrow.Author.Needs.{needs}
 use Rattle.schedule.specs.Runs.{runsOf}
 use Rattle.printed_plan.specs.Printing.{planLines}
-use Rattle.printed_plan.proofs.PutLaws.{put-three}
+use Rattle.lines.proofs.PutLaws.{put-three}
 use Rattle.printed_plan.proofs.LineLaws.{plan-length}
 use Rattle.report.proofs.put_plan.Statement.{statement}
 use Rattle.report.proofs.put_plan.Tie as tie

@@ -5,7 +5,7 @@ use native.Mathlib.Omega.{arith}
 use lib.ListN.{length}
 use Rattle.schedule.specs.Runs.{runAt, runsOf}
 use Rattle.printed_plan.specs.Printing.{runLine, runLines}
-use Rattle.printed_plan.proofs.PutLaws.{Putting, putting-start, putting-room, putting-fits, putting-step, putting-end}
+use Rattle.lines.proofs.PutLaws.{Putting, putting-start, putting-room, putting-fits, putting-step, putting-end}
 use Rattle.printed_plan.proofs.LineLaws.{runsLeft, runs-start, runs-step, runs-end}
 use Rattle.report.proofs.put_runs.Statement.{statement}
 use Rattle.report.proofs.put_runs.Tie as tie

@@ -1,0 +1,3 @@
+pub mod TaskLines
+pub mod TextReplies
+pub mod FileReplies

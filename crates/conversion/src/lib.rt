@@ -1,0 +1,138 @@
+// Table files and lines of text, one made from the other in a lent list.
+ghost use mathlib.Core.Path.{_≡_};
+ghost use mathlib.Core.List.{List};
+ghost use Prim.Native.Nat.{ℕ, _+_, _≤_};
+ghost use lib.ListN.{length};
+ghost use Rattle.base.specs.Limits.{maxTasks};
+ghost use Rattle.base.specs.Places.{places};
+ghost use Rattle.lines.specs.Putting.{Put};
+ghost use Rattle.lines.specs.Text.{decimal, line};
+ghost use Rattle.table.specs.Layout.{Holds};
+ghost use Rattle.table.specs.Tables.{taskAt};
+ghost use Rattle.table_text.specs.TableText.{headLine, taskLine, taskLines, tableText};
+ghost use Rattle.table_text.specs.Conversions.{textReply, textOver, ShowsText, ShownAgain, fileReply, fileOver};
+use base::MAX_TASKS;
+use lines::MAX_FIELD;
+use lines::NEWLINE;
+use table::Answer;
+use table::HELD_BYTES;
+use table::MAX_FILE;
+use table::Table;
+use table::Task;
+use table::Written;
+use table_text::FromText;
+
+// No text of a table is longer: a line for the table and one for each task, of at most 4 numbers, each with a byte behind it. Definitions say
+// maxTableText.
+pub const MAX_TABLE_TEXT: usize = (1 + MAX_TASKS) * (4 * MAX_FIELD);
+
+// A line of numbers put at a place: the first, the others with a space before each, a newline.
+fn put_numbers(out: &mut [u8], at: usize, first: u64, others: &[u64]) -> usize
+    requires { ⌜ at + length (line (decimal first) (now others)) ≤ length (now out) ⌝ }
+    ensures { λ r. ⌜ Put (line (decimal first) (now (others .entry))) at (now (out .entry)) r (now (out .exit)) ⌝ }
+{
+    let next = lines::put_decimal(out, at, first);
+    let end = lines::put_fields(out, next, others);
+    lines::put_byte(out, end, NEWLINE)
+}
+
+// The line of a table's task count, p and q, put at the front of a list.
+fn put_head(out: &mut [u8], table: Table) -> usize
+    requires { ⌜ length (headLine table) ≤ length (now out) ⌝ }
+    ensures { λ r. ⌜ Put (headLine table) 0 (now (out .entry)) r (now (out .exit)) ⌝ }
+{
+    let others = [table.p as u64, table.q as u64];
+    put_numbers(out, 0, table.count as u64, &others)
+}
+
+// The line of a task put at a place.
+fn put_task(out: &mut [u8], at: usize, task: Task) -> usize
+    requires { ⌜ at + length (taskLine task) ≤ length (now out) ⌝ }
+    ensures { λ r. ⌜ Put (taskLine task) at (now (out .entry)) r (now (out .exit)) ⌝ }
+{
+    let others = [
+        task.deadline as u64,
+        task.mandatory as u64,
+        task.optional as u64,
+    ];
+    put_numbers(out, at, task.release as u64, &others)
+}
+
+// The lines of a table's tasks put at a place.
+fn put_tasks(out: &mut [u8], at: usize, table: Table) -> usize
+    requires { ⌜ table .count ≤ maxTasks ⌝ }
+    requires { ⌜ at + length (taskLines (places (taskAt table) (table .count))) ≤ length (now out) ⌝ }
+    ensures { λ r. ⌜ Put (taskLines (places (taskAt table) (table .count))) at (now (out .entry)) r (now (out .exit)) ⌝ }
+{
+    let count = table.count as usize;
+    let mut next = at;
+    let mut i: usize = 0;
+    while i < count {
+        let task = table.tasks[i];
+        next = put_task(out, next, task);
+        i += 1;
+    }
+    next
+}
+
+// The text of a table put at the front of a list.
+fn put_table(out: &mut [u8], table: Table) -> usize
+    requires { ⌜ table .count ≤ maxTasks ⌝ }
+    requires { ⌜ length (tableText table) ≤ length (now out) ⌝ }
+    ensures { λ r. ⌜ Put (tableText table) 0 (now (out .entry)) r (now (out .exit)) ⌝ }
+{
+    let next = put_head(out, table);
+    put_tasks(out, next, table)
+}
+
+// Shows a table file as text at the front of a lent list: reading's refusals, then 9 for a list shorter than MAX_TABLE_TEXT, and else how many bytes
+// the text has.
+pub fn to_text(file: &[u8], out: &mut [u8]) -> Written
+    ensures reply { λ r. ⌜ r ≡ textReply (now (file .entry)) (length (now (out .entry))) ⌝ }
+    ensures content { λ r. ⌜ now (out .exit) ≡ textOver (now (file .entry)) (now (out .entry)) ⌝ }
+    ensures again { λ r. ⌜ ShownAgain (now (file .entry)) r (now (out .exit)) ⌝ }
+{
+    let read = reading::read(file);
+    let answer = read.answer;
+    let Answer::Accepted = answer else {
+        return Written::declined(answer.number(), answer.place());
+    };
+    if out.len() < MAX_TABLE_TEXT {
+        return Written::declined(9, 0);
+    }
+    let table = read.table;
+    let bytes = put_table(out, table);
+    Written::wrote(bytes)
+}
+
+// The same of an input. The first `filled` places of `held` are its first bytes: the whole input, or as many as there are places. They settle what is
+// shown.
+pub fn to_text_held(
+    held: [u8; HELD_BYTES],
+    filled: usize,
+    out: &mut [u8; MAX_TABLE_TEXT],
+) -> Written
+    ensures shown { λ r. ⌜ ((input : List ℕ) → Holds held filled input → ShowsText input (now (out .entry)) r (now (out .exit))) ⌝ }
+    ensures within { λ r. ⌜ r .bytes ≤ length (now (out .exit)) ⌝ }
+{
+    let end = table::held_of(filled);
+    to_text(&held[..end], out)
+}
+
+// Makes the file of a text's table at the front of a lent list that has room for every file: the first wrong line, or what writing replies.
+pub fn from_text(text: &[u8], out: &mut [u8; MAX_FILE]) -> FromText
+    ensures reply { λ r. ⌜ r ≡ fileReply (now (text .entry)) (length (now (out .entry))) ⌝ }
+    ensures content { λ r. ⌜ now (out .exit) ≡ fileOver (now (text .entry)) (now (out .entry)) ⌝ }
+    ensures within { λ r. ⌜ r .written .bytes ≤ length (now (out .exit)) ⌝ }
+{
+    let parsed = text_reading::parse(text);
+    let line = parsed.line;
+    let due = parsed.due;
+    if line != 0 {
+        let written = Written::wrote(0);
+        return FromText { line, due, written };
+    }
+    let table = parsed.table;
+    let written = writing::write(table, out);
+    FromText { line, due, written }
+}

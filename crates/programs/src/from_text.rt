@@ -1,0 +1,86 @@
+// Writes a table file: from lines of text to the file's bytes. Where a line is wrong, nothing is written, and one line of errors says which and why.
+use table::MAX_FILE;
+use table::Written;
+
+// The one line of errors: the number of a line, and what is wrong with it.
+fn complain(line: usize, cause: &[u8], errors: i32) {
+    io::write_all(errors, b"line ");
+    io::print_decimal(errors, line as u64);
+    io::write_all(errors, b": ");
+    io::write_all(errors, cause);
+    io::write_all(errors, b"\n");
+}
+
+// A line that is no line of a table: how many numbers are due there.
+fn wrong_line(line: usize, due: usize, errors: i32) {
+    if due == 3 {
+        complain(
+            line,
+            b"three numbers are due: task count, p, q (decimal, at most 9 digits each)",
+            errors,
+        );
+        return;
+    }
+    if due == 4 {
+        complain(
+            line,
+            b"four numbers are due: release frame, deadline frame, mandatory ticks, optional ticks (decimal, at most 9 digits each)",
+            errors,
+        );
+        return;
+    }
+    complain(
+        line,
+        b"nothing is due after the last task: line 1 has the task count",
+        errors,
+    );
+}
+
+// A table that writing refuses: the line that the refusal is about, and its cause.
+fn refused(reply: Written, errors: i32) {
+    let number = reply.number;
+    let line = text_reading::refused_line(number, reply.place);
+    match number {
+        2 => complain(line, b"task count 0 or above 64", errors),
+        5 => complain(line, b"p or q is 0 or above 4,095, or p below q", errors),
+        12 => complain(
+            line,
+            b"a number is too large for its field: frames go to 131,071, ticks to 16,383",
+            errors,
+        ),
+        6 => complain(line, b"release frame not below deadline frame", errors),
+        _ => complain(
+            line,
+            b"its window is not nested with that of an earlier task",
+            errors,
+        ),
+    }
+}
+
+// The file of a text, or the one line of errors.
+fn convert(text: &[u8], output: i32, errors: i32) {
+    let mut file = [0u8; MAX_FILE];
+    let reply = conversion::from_text(text, &mut file);
+    if reply.line != 0 {
+        wrong_line(reply.line, reply.due, errors);
+        return;
+    }
+    let written = reply.written;
+    if written.number != 0 {
+        refused(written, errors);
+        return;
+    }
+    let bytes = written.bytes;
+    io::write_all(output, &file[..bytes]);
+}
+
+// Writes the table file of an input's text, or says why not. A text that fills the buffer may be cut: one byte is left to tell.
+pub fn table_from_text(input: i32, output: i32, errors: i32) {
+    let mut buffer = io::large_buffer();
+    let length = io::read_full(input, &mut buffer);
+    if length == buffer.len() {
+        io::write_all(errors, b"the text has more than 65,535 bytes\n");
+        return;
+    }
+    convert(&buffer[..length], output, errors);
+}

@@ -1,0 +1,3 @@
+pub mod ScanSteps
+pub mod LineScan
+pub mod ScanLaws

@@ -1,0 +1,314 @@
+// A table written by hand: from lines of text to a table value, and from a refusal of writing back to the line it is about.
+ghost use mathlib.Core.Path.{_≡_};
+ghost use Prim.Native.Nat.{_+_, _^_, _<_};
+ghost use Rattle.table.specs.Tables.{taskOf};
+ghost use Rattle.lines.specs.Splitting.{isBlank, isDigit};
+ghost use Rattle.table_text.specs.TableText.{due, parsed, aboutTask, refusedLine};
+ghost use Rattle.text_reading.specs.Scanning.{noLine, spoiled, withDigit, withNumber, withByte, withLine, lineSpoiled, endLine, step, start};
+use base::MAX_TASKS;
+use lines::NEWLINE;
+use lines::NINE;
+use lines::SPACE;
+use lines::ZERO;
+use table::Table;
+use table::Task;
+use table_text::Parsed;
+
+// The blanks beside the space.
+const TAB: u8 = 9;
+
+const CARRIAGE_RETURN: u8 = 13;
+
+// The most numbers of a line.
+const LINE_NUMBERS: usize = 4;
+
+// The greatest number to which a digit can be added: a number has at most 9 digits, zeros before it not counted.
+const LAST_TENTH: u32 = 99_999_999;
+
+// What was read of a line.
+struct Line {
+    // It has what no line may have.
+    pub bad: bool,
+    // How many numbers it has so far, and these.
+    pub seen: usize,
+    pub numbers: [u32; LINE_NUMBERS],
+    // A number is being read, and its value so far.
+    pub reading: bool,
+    pub value: u32,
+}
+
+// What was read of a text.
+struct Scan {
+    // The number of the line being read, from 1.
+    pub line: usize,
+    // The first wrong line, and 0 where none was met.
+    pub wrong: usize,
+    // What the lines before hold.
+    pub table: Table,
+    // The line being read.
+    pub current: Line,
+}
+
+// A blank: space, tab or carriage return.
+fn is_blank(byte: u8) -> bool
+    ensures { λ r. ⌜ r ≡ isBlank byte ⌝ }
+{
+    if byte == SPACE {
+        return true;
+    }
+    if byte == TAB {
+        return true;
+    }
+    byte == CARRIAGE_RETURN
+}
+
+// A decimal digit.
+fn is_digit(byte: u8) -> bool
+    ensures { λ r. ⌜ r ≡ isDigit byte ⌝ }
+{
+    ZERO <= byte && byte <= NINE
+}
+
+impl Line {
+    // A line of which nothing was read.
+    fn new() -> Line
+        ensures { λ r. ⌜ r ≡ noLine ⌝ }
+    {
+        Line {
+            bad: false,
+            seen: 0,
+            numbers: [0; LINE_NUMBERS],
+            reading: false,
+            value: 0,
+        }
+    }
+
+    // The line with what no line may have.
+    fn spoil(self) -> Line
+        ensures { λ r. ⌜ r ≡ spoiled self ⌝ }
+    {
+        let mut line = self;
+        line.bad = true;
+        line
+    }
+
+    // The line with a digit more of the number being read.
+    fn with_digit(self, digit: u32) -> Line
+        requires { ⌜ digit < 10 ⌝ }
+        ensures { λ r. ⌜ r ≡ withDigit self digit ⌝ }
+    {
+        if LAST_TENTH < self.value {
+            return self.spoil();
+        }
+        let mut line = self;
+        line.reading = true;
+        line.value = 10 * self.value + digit;
+        line
+    }
+
+    // The line once the number being read, where there is one, is complete.
+    fn with_number(self) -> Line
+        ensures { λ r. ⌜ r ≡ withNumber self ⌝ }
+    {
+        if !self.reading {
+            return self;
+        }
+        let seen = self.seen;
+        if LINE_NUMBERS <= seen {
+            return self.spoil();
+        }
+        let mut line = self;
+        line.seen = seen + 1;
+        line.numbers[seen] = self.value;
+        line.reading = false;
+        line.value = 0;
+        line
+    }
+
+    // The line with a byte more, which is no newline.
+    fn with_byte(self, byte: u8) -> Line
+        ensures { λ r. ⌜ r ≡ withByte self byte ⌝ }
+    {
+        if is_digit(byte) {
+            return self.with_digit((byte - ZERO) as u32);
+        }
+        if is_blank(byte) {
+            return self.with_number();
+        }
+        self.spoil()
+    }
+}
+
+// How many numbers are due on a line, in a text for `count` tasks.
+fn numbers_due(line: usize, count: u32) -> usize
+    ensures { λ r. ⌜ r ≡ due line count ⌝ }
+{
+    if line <= 1 {
+        return 3;
+    }
+    if line <= count as usize + 1 {
+        return 4;
+    }
+    0
+}
+
+// A line that ended is wrong: it is spoiled, or has not as many numbers as are due.
+fn is_wrong(line: usize, count: u32, ended: Line) -> bool
+    ensures { λ r. ⌜ r ≡ lineSpoiled line count ended ⌝ }
+{
+    if ended.bad {
+        return true;
+    }
+    ended.seen != numbers_due(line, count)
+}
+
+// The task of a line's four numbers.
+fn task_of(numbers: [u32; LINE_NUMBERS]) -> Task
+    ensures { λ r. ⌜ r ≡ taskOf numbers ⌝ }
+{
+    Task {
+        release: numbers[0],
+        deadline: numbers[1],
+        mandatory: numbers[2],
+        optional: numbers[3],
+    }
+}
+
+// The table with what a line gives: line 1 gives task count, p and q, and line k + 2 gives the task at position k.
+fn with_line(table: Table, line: usize, numbers: [u32; LINE_NUMBERS]) -> Table
+    ensures { λ r. ⌜ r ≡ withLine table line numbers ⌝ }
+{
+    let mut filled = table;
+    if line <= 1 {
+        filled.count = numbers[0];
+        filled.p = numbers[1];
+        filled.q = numbers[2];
+        return filled;
+    }
+    if table.count as usize + 1 < line {
+        return table;
+    }
+    let place = line - 2;
+    if MAX_TASKS <= place {
+        return table;
+    }
+    filled.tasks[place] = task_of(numbers);
+    filled
+}
+
+impl Scan {
+    // Nothing was read.
+    fn new() -> Scan
+        ensures { λ r. ⌜ r ≡ start ⌝ }
+    {
+        let table = Table::none();
+        let current = Line::new();
+        Scan {
+            line: 1,
+            wrong: 0,
+            table,
+            current,
+        }
+    }
+
+    // The line being read ends: it is wrong where it has not as many numbers as are due, and else its numbers go into the table.
+    fn end_line(self) -> Scan
+        requires { ⌜ self .line + 1 < 2 ^ 64 ⌝ }
+        ensures { λ r. ⌜ r ≡ endLine self ⌝ }
+    {
+        let table = self.table;
+        let current = self.current;
+        let ended = current.with_number();
+        if is_wrong(self.line, table.count, ended) {
+            let mut refused = self;
+            refused.wrong = self.line;
+            return refused;
+        }
+        let numbers = ended.numbers;
+        let filled = with_line(table, self.line, numbers);
+        let next = Line::new();
+        Scan {
+            line: self.line + 1,
+            wrong: 0,
+            table: filled,
+            current: next,
+        }
+    }
+
+    // A byte more of the text.
+    fn step(self, byte: u8) -> Scan
+        requires { ⌜ self .line + 1 < 2 ^ 64 ⌝ }
+        ensures { λ r. ⌜ r ≡ step self byte ⌝ }
+    {
+        if self.wrong != 0 {
+            return self;
+        }
+        if byte == NEWLINE {
+            return self.end_line();
+        }
+        let table = self.table;
+        let current = self.current;
+        let next = current.with_byte(byte);
+        Scan {
+            line: self.line,
+            wrong: 0,
+            table,
+            current: next,
+        }
+    }
+}
+
+// A text of any bytes: its first wrong line, or its table. The end counts as two newlines, of which the first ends a line that lacks its own,
+// and the second makes a blank line, which is wrong where a line is missing.
+pub fn parse(text: &[u8]) -> Parsed
+    ensures { λ r. ⌜ r ≡ parsed (now (text .entry)) ⌝ }
+{
+    let mut scan = Scan::new();
+    let mut i: usize = 0;
+    while i < text.len() {
+        scan = scan.step(text[i]);
+        i += 1;
+    }
+    let ended = scan.step(NEWLINE);
+    let closed = ended.step(NEWLINE);
+    let table = closed.table;
+    if closed.wrong != 0 {
+        let none = Table::none();
+        return Parsed {
+            line: closed.wrong,
+            due: numbers_due(closed.wrong, table.count),
+            table: none,
+        };
+    }
+    Parsed {
+        line: 0,
+        due: 0,
+        table,
+    }
+}
+
+// A refusal of writing is about one task.
+fn is_about_task(number: u32) -> bool
+    ensures { λ r. ⌜ r ≡ aboutTask number ⌝ }
+{
+    if number == 12 {
+        return true;
+    }
+    if number == 6 {
+        return true;
+    }
+    number == 7
+}
+
+// The line that a refusal of writing is about: line k + 2 where it is about the task at position k, and else line 1.
+pub fn refused_line(number: u32, place: usize) -> usize
+    ensures { λ r. ⌜ r ≡ refusedLine number place ⌝ }
+{
+    if !is_about_task(number) {
+        return 1;
+    }
+    if MAX_TASKS <= place {
+        return 1;
+    }
+    place + 2
+}
