@@ -1,1 +1,4 @@
+pub mod SameLaws
+pub mod Computed
 pub mod SampleLaws
+pub mod RefusalLaws

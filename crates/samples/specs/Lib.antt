@@ -1,1 +1,4 @@
+pub mod Inputs
 pub mod Samples
+pub mod Refusals
+pub mod SampleTests

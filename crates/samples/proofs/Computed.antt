@@ -1,0 +1,45 @@
+-- The tests of the sample flights and of the refusals, computed.
+use mathlib.Core.Path.{_≡_, refl}
+use mathlib.Core.Bool.{true}
+use Rattle.base.specs.Lowest.{lowestFrom, lowest, someBelow}
+use Rattle.base.specs.Places.{placesFrom, places}
+use Rattle.bits.specs.Bits.{bitAt, number, field, bitsOf, bitIn, bytesFrom, bytesFor, pack}
+use Rattle.bits.specs.Rows.{rowBits, rowsBits}
+use Rattle.clock.specs.Clock.{releaseTick, deadlineTick}
+use Rattle.table.specs.Tables.{taskAt, tableOf, noTable}
+use Rattle.table.specs.Layout.{taskStart, fileLength, badCount, badPeriod}
+use Rattle.table.specs.Windows.{reversed, contains, nested, crosses, forwardAnswer, nestingAnswer, windowAnswer}
+use Rattle.table.specs.Reading.{countIn, pIn, qIn, taskFrom, taskIn, tableIn, paddingSet, frontAnswer, headAnswer, readAnswer, reading}
+use Rattle.table.specs.Writing.{headBits, rowsFile, fileOf, tooWide, firstTooWide, rowsReply, writeReply}
+use Rattle.table.specs.Moving.{movedOutside, firstOutside, moveReply}
+use Rattle.schedule.specs.Jobs.{jobOf, jobAt}
+use Rattle.schedule.specs.Ticks.{countBelow}
+use Rattle.schedule.specs.Runs.{badColumns, runAt, runsOf}
+use Rattle.schedule.specs.Judging.{noneEmpty, verdict, firstBadMark, judgeTable, judged}
+use Rattle.schedule.specs.BusyCount.{busyReply}
+use Rattle.choice.specs.Choice.{total, worksFit, worksOf, keepLists, keptTicks, lexLess, discardedWorth, keptWorth, key, better, best, chosenBy}
+use Rattle.placement.specs.Placing.{worksPlaced, latestFirst}
+use Rattle.placement.specs.ByPosition.{numberAt}
+use Rattle.nesting.specs.NestOrder.{nestBefore, insertOuter, outermostFirst, nestOrder, jobsOutermostFirst}
+use Rattle.plans.specs.Planning.{exceedingAfter, firstExceeding, tooShort, keepList, planMarks, planRuns, planOf, planTable, planReply}
+use Rattle.lines.specs.Text.{decimalWithin, decimal, fields, line}
+use Rattle.printed_plan.specs.Printing.{
+  dropsFrom,
+  dropLines,
+  runLine,
+  runLines,
+  planLines,
+  planText,
+  refusalText,
+  longReply,
+  printed,
+}
+use Rattle.samples.specs.Inputs.{ascii, textOf}
+use Rattle.samples.specs.Samples.{samples}
+use Rattle.samples.specs.Refusals.{computedRows}
+use Rattle.samples.specs.SampleTests.{allPass, sameNumbers, sameRuns, sameTasks, sameTable, fileMet, planMet, sampleMet, callMet}
+
+-- every sample flight passes, and every call whose test is computed
+pub all-pass : (allPass sampleMet samples ≡ true) × (allPass callMet computedRows ≡ true)
+unfolding allPass sampleMet planMet fileMet callMet sameTable sameTasks sameRuns sameNumbers textOf ascii printed longReply refusalText planText planLines runLines runLine dropLines dropsFrom line fields decimal decimalWithin planReply planTable planOf planRuns planMarks numberAt keepList tooShort firstExceeding exceedingAfter jobsOutermostFirst nestOrder outermostFirst insertOuter nestBefore worksPlaced latestFirst chosenBy best better key keptWorth discardedWorth lexLess keptTicks keepLists worksFit worksOf total countBelow busyReply judged judgeTable firstBadMark verdict noneEmpty runsOf runAt badColumns jobAt jobOf moveReply firstOutside movedOutside writeReply rowsReply firstTooWide tooWide fileOf rowsFile headBits reading readAnswer headAnswer frontAnswer paddingSet tableIn taskIn taskFrom qIn pIn countIn windowAnswer forwardAnswer nestingAnswer crosses nested contains reversed badPeriod badCount fileLength taskStart noTable tableOf taskAt releaseTick deadlineTick rowsBits rowBits pack bytesFrom bytesFor bitIn bitsOf field number bitAt placesFrom places someBelow lowest lowestFrom
+all-pass = (refl, refl)

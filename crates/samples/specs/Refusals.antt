@@ -1,0 +1,269 @@
+-- The refusals of document 01, as one table of calls and their whole replies: every number with its place, the order among the numbers, and calls at a
+-- limit that are not refused.
+use Prim.Native.Nat.{ℕ, _-_}
+use mathlib.Core.Path.{_≡_}
+use mathlib.Core.Bool.{false}
+use mathlib.Core.List.{List, [], _∷_, _++_}
+use lib.ListN.{length, replicate, take}
+use lib.IntN.{ℤ, pos, negsuc}
+use Rattle.table.specs.declared.Table.{Table}
+use Rattle.table.specs.declared.Written.{Written}
+use Rattle.table.specs.Tables.{noTable, tableOf}
+use Rattle.table.specs.Answers.{numberOf, placeOf, declined, wrote}
+use Rattle.table.specs.Reading.{reading}
+use Rattle.table.specs.Writing.{fileOf, writeReply}
+use Rattle.table.specs.Moving.{moveReply}
+use Rattle.schedule.specs.declared.Judged.{Judged}
+use Rattle.schedule.specs.declared.Busy.{Busy}
+use Rattle.schedule.specs.Judging.{judged, judgeDeclined, judgeSays}
+use Rattle.schedule.specs.BusyCount.{busyReply}
+use Rattle.plans.specs.declared.Planned.{Planned}
+use Rattle.plans.specs.Planning.{LentLists, lent, planDeclined, planReply}
+use Rattle.printed_plan.specs.Printing.{printed}
+use Rattle.samples.specs.Inputs.{task, table, textOf}
+use Rattle.samples.specs.Samples.{p4File, p8File, p8Marks}
+
+-- a call, with what is given to it and its whole reply
+pub data Call : Type 0 where
+  -- reading a file: the number and the place of the answer, and the table
+  reads : List ℕ → ℕ → ℕ → Table → Call
+  -- writing a table into a list of so many bytes
+  writes : Table → ℕ → Written → Call
+  -- moving a file by a number of frames into a list of so many bytes
+  moves : List ℕ → ℤ → ℕ → Written → Call
+  -- planning a file into lent lists
+  plans : List ℕ → LentLists → Planned → Call
+  -- judging a file, a keep list, and runs by their starts, ends and tasks
+  judges : List ℕ → List ℕ → List ℕ → List ℕ → List ℕ → Judged → Call
+  -- the busy count of runs by their starts, ends and tasks, from one tick to another
+  busyCounts : List ℕ → List ℕ → List ℕ → ℕ → ℕ → Busy → Call
+  -- printing the plan of a file: the bytes of the text
+  prints : List ℕ → List ℕ → Call
+
+-- what a call's row says of the definitions
+abbrev pub CallSays : Call → Type 0
+CallSays (reads file number place t) =
+    (numberOf (reading file .answer) ≡ number) × (placeOf (reading file .answer) ≡ place) × (reading file .table ≡ t)
+CallSays (writes t room reply) = writeReply t room ≡ reply
+CallSays (moves file shift room reply) = moveReply file shift room ≡ reply
+CallSays (plans file lists reply) = planReply file lists ≡ reply
+CallSays (judges file marks starts ends tasks reply) = judged file marks starts ends tasks ≡ reply
+CallSays (busyCounts starts ends tasks a b reply) = busyReply starts ends tasks a b ≡ reply
+CallSays (prints file text) = printed file ≡ text
+
+-- a file that reading refuses: the table is 0 throughout
+abbrev pub unread : List ℕ → ℕ → ℕ → Call
+unread file number place = reads file number place noTable
+
+-- the replies of the busy count
+abbrev pub uncounted : ℕ → ℕ → Busy
+uncounted number place = record { number = number; place = place; ticks = 0 }
+
+abbrev pub counted : ℕ → Busy
+counted ticks = record { number = 0; place = 0; ticks = ticks }
+
+-- a file with another last byte
+abbrev pub ending : ℕ → List ℕ → List ℕ
+ending byte file = take (length file - 1) file ++ byte ∷ []
+
+-- the table of so many equal tasks; a table has places for 64
+abbrev pub equalTasks : ℕ → Table
+equalTasks n = tableOf n 1 1 (λ k. task 0 1 0 0)
+
+-- lists of so many marks, starts, ends and tasks
+abbrev pub lists : ℕ → ℕ → ℕ → ℕ → LentLists
+lists marks starts ends tasks = lent (replicate marks 0) (replicate starts 0) (replicate ends 0) (replicate tasks 0)
+
+-- a file with a byte too many: 12 are needed
+abbrev pub longFile : List ℕ
+longFile = p4File ++ 0 ∷ []
+
+-- three tasks: task 1 is not nested with task 0, and task 2 is reversed
+abbrev pub crossedThenReversed : Table
+crossedThenReversed = table 1 1 (task 0 5 0 0 ∷ task 3 9 0 0 ∷ task 8 7 0 0 ∷ [])
+
+-- three tasks: task 2 is nested with task 1, the one before it, and not with task 0
+abbrev pub crossedAt2 : Table
+crossedAt2 = table 1 1 (task 2 6 0 0 ∷ task 0 9 0 0 ∷ task 5 8 0 0 ∷ [])
+
+-- two tasks: task 1 has the lower release frame and the higher deadline frame
+abbrev pub twoTasks : List ℕ
+twoTasks = fileOf (table 1 1 (task 2 8 0 0 ∷ task 1 9 0 0 ∷ []))
+
+-- three tasks whose mandatory ticks exceed the outermost window alone: that of task 1, which is the last in nest order
+abbrev pub outermostExceeds : List ℕ
+outermostExceeds = fileOf (table 1 1 (task 2 8 2 0 ∷ task 0 10 7 0 ∷ task 4 6 2 0 ∷ []))
+
+-- three tasks of which two exceed their windows: task 1, the first in nest order, and task 0, the last
+abbrev pub innermostExceeds : List ℕ
+innermostExceeds = fileOf (table 1 1 (task 0 10 9 0 ∷ task 4 6 3 0 ∷ task 2 8 1 0 ∷ []))
+
+-- Reading: 1 for under 4 bytes, then 2, 1, 3, 4, 5, 6, 7.
+abbrev pub readingRows : List Call
+readingRows =
+    -- 1, the file length: fewer than 4 bytes, whatever they are (1 before 2)
+    unread [] 1 0
+    ∷ unread (0x00 ∷ 0x00 ∷ 0x00 ∷ []) 1 3
+    -- fewer than the count needs: 12 for one task
+    ∷ unread (0x02 ∷ 0x00 ∷ 0x00 ∷ 0x00 ∷ []) 1 4
+    ∷ unread (take 11 p4File) 1 11
+    -- 2: count 0, in 4 bytes and in 12 (2 before 3)
+    ∷ unread (replicate 4 0) 2 0
+    ∷ unread (replicate 12 0) 2 0
+    -- count 65 in as many bytes as 65 tasks need, and in 4 bytes (2 before the second 1)
+    ∷ unread (0x82 ∷ replicate 507 0) 2 0
+    ∷ unread (0x82 ∷ 0x00 ∷ 0x00 ∷ 0x00 ∷ []) 2 0
+    -- count 64 in 4 bytes: not 2, but 1
+    ∷ unread (0x80 ∷ 0x00 ∷ 0x00 ∷ 0x00 ∷ []) 1 4
+    -- 3, the length needed: one byte too many, two too many, and one too many with padding set (3 before 4)
+    ∷ unread longFile 3 12
+    ∷ unread (p4File ++ 0 ∷ 0 ∷ []) 3 12
+    ∷ unread (ending 0x97 p4File ++ 0 ∷ []) 3 12
+    -- 4: the lowest of the three padding bits, and the highest
+    ∷ unread (ending 0x91 p4File) 4 0
+    ∷ unread (ending 0x94 p4File) 4 0
+    -- padding and period: 4 before 5
+    ∷ unread (ending 0x01 (fileOf (table 0 1 (task 0 2 0 0 ∷ [])))) 4 0
+    -- 5: p is 0, q is 0, p below q
+    ∷ unread (fileOf (table 0 1 (task 0 2 0 0 ∷ []))) 5 0
+    ∷ unread (fileOf (table 1 0 (task 0 2 0 0 ∷ []))) 5 0
+    ∷ unread (fileOf (table 4 5 (task 0 2 0 0 ∷ []))) 5 0
+    -- period and window: 5 before 6
+    ∷ unread (fileOf (table 4 5 (task 2 0 0 0 ∷ []))) 5 0
+    -- 6, the position: release above deadline in tasks 1 and 2, release equal to deadline
+    ∷ unread (fileOf (table 1 1 (task 0 9 0 0 ∷ task 3 2 0 0 ∷ task 5 4 0 0 ∷ []))) 6 1
+    ∷ unread (fileOf (table 1 1 (task 0 9 0 0 ∷ task 3 3 0 0 ∷ []))) 6 1
+    -- 6 before 7
+    ∷ unread (fileOf crossedThenReversed) 6 2
+    -- 7, the position: the lowest of tasks 1 and 2, and task 2 alone
+    ∷ unread (fileOf (table 1 1 (task 0 5 0 0 ∷ task 3 9 0 0 ∷ task 4 10 0 0 ∷ []))) 7 1
+    ∷ unread (fileOf crossedAt2) 7 2
+    ∷ []
+
+-- Writing: 2, 5, 12, 6, 7, 9. A file of one task has 12 bytes, of two 20, of three 28, of 64 tasks 500.
+abbrev pub writingRows : List Call
+writingRows =
+    -- 2: count 0, count 65
+    writes (equalTasks 0) 500 (declined 2 0)
+    ∷ writes (equalTasks 65) 600 (declined 2 0)
+    -- count and period: 2 before 5
+    ∷ writes (tableOf 65 0 0 (λ k. task 0 1 0 0)) 600 (declined 2 0)
+    -- 5: p is 4,095, p is 4,096; q is 4,095, q is 4,096, which is above every p that is allowed; p below q
+    ∷ writes (table 4_095 1 (task 0 1 0 0 ∷ [])) 12 (wrote 12)
+    ∷ writes (table 4_096 1 (task 0 1 0 0 ∷ [])) 12 (declined 5 0)
+    ∷ writes (table 4_095 4_095 (task 0 1 0 0 ∷ [])) 12 (wrote 12)
+    ∷ writes (table 4_095 4_096 (task 0 1 0 0 ∷ [])) 12 (declined 5 0)
+    ∷ writes (table 1 2 (task 0 1 0 0 ∷ [])) 12 (declined 5 0)
+    -- period and width: 5 before 12
+    ∷ writes (table 4_096 1 (task 0 131_072 0 0 ∷ [])) 12 (declined 5 0)
+    -- 12, the position: every field of the greatest number that its bits hold, and then each field one more; in the last row two tasks are so
+    ∷ writes (table 1 1 (task 131_070 131_071 16_383 16_383 ∷ [])) 12 (wrote 12)
+    ∷ writes (table 1 1 (task 0 9 0 0 ∷ task 131_072 131_071 0 0 ∷ [])) 20 (declined 12 1)
+    ∷ writes (table 1 1 (task 0 9 0 0 ∷ task 0 131_072 0 0 ∷ [])) 20 (declined 12 1)
+    ∷ writes (table 1 1 (task 0 9 0 0 ∷ task 0 9 16_384 0 ∷ [])) 20 (declined 12 1)
+    ∷ writes (table 1 1 (task 0 9 0 0 ∷ task 0 9 0 16_384 ∷ task 0 9 0 16_384 ∷ [])) 28 (declined 12 1)
+    -- task 0 reversed, task 1 too wide: 12 before 6
+    ∷ writes (table 1 1 (task 9 0 0 0 ∷ task 0 9 16_384 0 ∷ [])) 20 (declined 12 1)
+    -- 6, the position
+    ∷ writes (table 1 1 (task 0 9 0 0 ∷ task 3 3 0 0 ∷ [])) 20 (declined 6 1)
+    -- 6 before 7
+    ∷ writes crossedThenReversed 28 (declined 6 2)
+    -- 7, the position, also into a list too short: 7 before 9
+    ∷ writes crossedAt2 28 (declined 7 2)
+    ∷ writes crossedAt2 0 (declined 7 2)
+    -- 9: a byte too short
+    ∷ writes (table 1 1 (task 0 1 0 0 ∷ [])) 11 (declined 9 0)
+    ∷ []
+
+-- Moving: reading, 10, 9. Here `negsuc k` is −(k + 1).
+abbrev pub movingRows : List Call
+movingRows =
+    -- reading's refusal with its place, before 10 and 9
+    moves longFile (negsuc 0) 0 (declined 3 12)
+    -- 10, the position: below 0, where task 1 alone is moved there, and where both are
+    ∷ moves twoTasks (negsuc 1) 20 (declined 10 1)
+    ∷ moves twoTasks (negsuc 2) 20 (declined 10 0)
+    -- above 131,071, and up to it
+    ∷ moves twoTasks (pos 131_063) 20 (declined 10 1)
+    ∷ moves twoTasks (pos 131_062) 20 (wrote 20)
+    -- down to 0
+    ∷ moves twoTasks (negsuc 0) 20 (wrote 20)
+    -- 10 before 9, and 9: a byte too short
+    ∷ moves p8File (negsuc 0) 0 (declined 10 0)
+    ∷ moves p8File (pos 1) 27 (declined 9 0)
+    ∷ []
+
+-- Planning: reading, 8, 9. Three tasks need 3 marks and 5 runs.
+abbrev pub planningRows : List Call
+planningRows =
+    -- reading's refusal with its place, before 9, and before 8: task 0 exceeds its window, and task 1 is not nested with it
+    plans longFile (lists 0 0 0 0) (planDeclined 3 12)
+    ∷ plans (fileOf (table 1 1 (task 0 5 6 0 ∷ task 3 9 0 0 ∷ []))) (lists 2 3 3 3) (planDeclined 7 1)
+    -- 8, the position of the first task in nest order that exceeds
+    ∷ plans outermostExceeds (lists 3 5 5 5) (planDeclined 8 1)
+    ∷ plans innermostExceeds (lists 3 5 5 5) (planDeclined 8 1)
+    -- 8 before 9
+    ∷ plans outermostExceeds (lists 0 0 0 0) (planDeclined 8 1)
+    -- 9: the marks and each column of the runs one short
+    ∷ plans p8File (lists 2 5 5 5) (planDeclined 9 0)
+    ∷ plans p8File (lists 3 4 5 5) (planDeclined 9 0)
+    ∷ plans p8File (lists 3 5 4 5) (planDeclined 9 0)
+    ∷ plans p8File (lists 3 5 5 4) (planDeclined 9 0)
+    -- the line printed of a refusal
+    ∷ prints outermostExceeds (textOf ("REFUSED 8 1" ∷ []))
+    ∷ prints longFile (textOf ("REFUSED 3 12" ∷ []))
+    ∷ []
+
+-- Judging: reading, 11, 13; in 11 the length goes first.
+abbrev pub judgingRows : List Call
+judgingRows =
+    -- reading's refusal with its place
+    judges longFile [] [] [] [] (judgeDeclined 3 12)
+    -- 11, the task count: a keep list too short and one too long, whatever its marks
+    ∷ judges p8File (2 ∷ 1 ∷ []) [] [] [] (judgeDeclined 11 3)
+    ∷ judges p8File (1 ∷ 2 ∷ 1 ∷ 1 ∷ []) [] [] [] (judgeDeclined 11 3)
+    -- 11, the first mark above 1
+    ∷ judges p8File (1 ∷ 2 ∷ 2 ∷ []) [] [] [] (judgeDeclined 11 1)
+    -- 11 before 13
+    ∷ judges p8File (1 ∷ 2 ∷ 1 ∷ []) (0 ∷ []) [] [] (judgeDeclined 11 1)
+    -- 13: each column of unequal length, 4,097 runs
+    ∷ judges p8File p8Marks (2 ∷ []) [] [] (judgeDeclined 13 0)
+    ∷ judges p8File p8Marks (2 ∷ []) (4 ∷ []) [] (judgeDeclined 13 0)
+    ∷ judges p8File p8Marks (2 ∷ []) [] (0 ∷ []) (judgeDeclined 13 0)
+    ∷ judges p8File p8Marks (replicate 4_097 0) (replicate 4_097 0) (replicate 4_097 0) (judgeDeclined 13 0)
+    ∷ []
+
+-- Busy count: 13 only.
+abbrev pub busyRows : List Call
+busyRows =
+    -- each column of unequal length, 4,097 runs
+    busyCounts (2 ∷ []) [] [] 0 9 (uncounted 13 0)
+    ∷ busyCounts (2 ∷ []) (4 ∷ []) [] 0 9 (uncounted 13 0)
+    ∷ busyCounts (2 ∷ []) [] (0 ∷ []) 0 9 (uncounted 13 0)
+    ∷ busyCounts (replicate 4_097 0) (replicate 4_097 1) (replicate 4_097 0) 0 9 (uncounted 13 0)
+    ∷ []
+
+-- Calls at a limit that are not refused.
+abbrev pub limitRows : List Call
+limitRows =
+    -- 64 tasks are written
+    writes (equalTasks 64) 500 (wrote 500)
+    -- 4,096 runs are judged; the first is empty, so the reply is no
+    ∷ judges p8File p8Marks (replicate 4_096 0) (replicate 4_096 0) (replicate 4_096 0) (judgeSays false 0 0)
+    ∷ []
+
+-- And two more, which are proved by laws: to compute them takes too long.
+abbrev pub largeRows : List Call
+largeRows =
+    -- 64 tasks are read
+    reads (fileOf (equalTasks 64)) 0 0 (equalTasks 64)
+    -- 4,096 runs are counted, one tick each
+    ∷ busyCounts (replicate 4_096 0) (replicate 4_096 1) (replicate 4_096 0) 0 9 (counted 4_096)
+    ∷ []
+
+-- the rows whose test is computed, and all rows
+abbrev pub computedRows : List Call
+computedRows = limitRows ++ readingRows ++ writingRows ++ movingRows ++ planningRows ++ judgingRows ++ busyRows
+
+abbrev pub refusals : List Call
+refusals = computedRows ++ largeRows
