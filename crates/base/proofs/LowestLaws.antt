@@ -1,14 +1,15 @@
 -- Laws of the lowest position that passes a test.
-use Prim.Native.Nat.{ℕ, zero, suc, _+_, _-_, _≤_, _<_}
-use mathlib.Core.Path.{_≡_, refl, sym, _∙_}
+use Prim.Native.Nat.{ℕ, zero, suc, _+_, _-_, _≤_, _<_, max}
+use mathlib.Core.Path.{_≡_, refl, sym, ap, _∙_}
 use mathlib.Core.Bool.{Bool, true, false}
 use native.Mathlib.Omega.{arith}
 use native.Mathlib.Numerals.{add-one}
 use native.Mathlib.Decide.{decLe, decLt}
-use borrow.Author.Tests.{ltb-true, ltb-false, lt-ltb, le-ltb}
-use Rattle.base.specs.Tests.{or}
+use lib.Dec.{ltb, leb}
+use borrow.Author.Tests.{ltb-true, ltb-false, leb-true, lt-ltb, le-ltb, le-leb, lt-leb}
+use Rattle.base.specs.Tests.{and, or}
 use Rattle.base.specs.Lowest.{lowestFrom, lowest, someBelow}
-use Rattle.base.proofs.TestLaws.{cases, pick-true, pick-false, both-absurd}
+use Rattle.base.proofs.TestLaws.{cases, pick-true, pick-false, both-absurd, and-true, and-left, and-right}
 
 -- the search at a position that passes, at one that does not, and at the end
 found-in : (test : ℕ → Bool) (i c : ℕ) → 0 < c → test i ≡ true → lowestFrom test i c ≡ i
@@ -86,6 +87,11 @@ none-passes test n h =
       | no l ↦ let w : lowest test n ≤ n = lowest-bound test n in omega arith
     ]
 
+-- what is found is no higher than any position that passes
+pub lowest-least : (test : ℕ → Bool) (n k : ℕ) → test k ≡ true → lowest test n ≤ k
+lowest-least test n k e =
+    elim (decLe (lowest test n) k) [ yes l ↦ l | no l ↦ both-absurd (test k) e (before test n k (omega arith)) ]
+
 -- tests that agree below n have the same lowest position
 from-same : (f g : ℕ → Bool) (i c : ℕ) → ((k : ℕ) → i ≤ k → k < i + c → f k ≡ g k) → lowestFrom f i c ≡ lowestFrom g i c
 unfolding lowestFrom
@@ -113,6 +119,50 @@ no-some test n e k l = before test n k (omega (arith, ltb-false (lowest test n) 
 pub none-some : (test : ℕ → Bool) (n : ℕ) → ((k : ℕ) → k < n → test k ≡ false) → someBelow test n ≡ false
 unfolding someBelow
 none-some test n h = le-ltb (lowest test n) n (omega (arith, none-passes test n h))
+
+-- tests that agree below n pass somewhere alike
+pub some-same : (f g : ℕ → Bool) (n : ℕ) → ((k : ℕ) → k < n → f k ≡ g k) → someBelow f n ≡ someBelow g n
+unfolding someBelow
+some-same f g n h = ap (λ i. ltb i n) (same f g n h)
+
+-- some position up to k passes exactly where the lowest below n, with k below n, is no higher than k
+pub some-upto : (test : ℕ → Bool) (n k : ℕ) → k < n → someBelow test (suc k) ≡ leb (lowest test n) k
+some-upto test n k l =
+    elim (decLe (lowest test n) k) [
+      | yes h ↦ some-passes test (suc k) (lowest test n) (omega arith) (passes test n (omega arith)) ∙ sym (le-leb (lowest test n) k h)
+      | no h ↦ none-some test (suc k) (λ j m. before test n j (omega arith)) ∙ sym (lt-leb (lowest test n) k (omega arith))
+    ]
+
+-- the lowest position up to which each of two tests passes somewhere is the higher of their lowest positions
+pub lowest-both : (f g test : ℕ → Bool) (n : ℕ) → ((k : ℕ) → k < n → test k ≡ and (someBelow f (suc k)) (someBelow g (suc k)))
+    → lowest test n ≡ max (lowest f n) (lowest g n)
+lowest-both f g test n h =
+    let bound : lowest test n ≤ n = lowest-bound test n in
+    let bound-f : lowest f n ≤ n = lowest-bound f n in
+    let bound-g : lowest g n ≤ n = lowest-bound g n in
+    let by : (k : ℕ) → k < n → test k ≡ and (leb (lowest f n) k) (leb (lowest g n) k) = λ k l. rw (← some-upto f n k l, ← some-upto g n k l) (h k l) in
+    let above : max (lowest f n) (lowest g n) ≤ lowest test n =
+    elim (decLt (lowest test n) n) [
+      | yes l ↦
+          let e = sym (by (lowest test n) l) ∙ passes test n l in
+          omega (
+            arith,
+            leb-true (lowest f n) (lowest test n) (and-left (leb (lowest f n) (lowest test n)) (leb (lowest g n) (lowest test n)) e),
+            leb-true (lowest g n) (lowest test n) (and-right (leb (lowest f n) (lowest test n)) (leb (lowest g n) (lowest test n)) e),
+          )
+      | no l ↦ omega arith
+    ] in
+    let below : lowest test n ≤ max (lowest f n) (lowest g n) =
+    elim (decLt (max (lowest f n) (lowest g n)) n) [
+      | yes l ↦
+          lowest-least test n (max (lowest f n) (lowest g n))
+          (by (max (lowest f n) (lowest g n)) l
+          ∙ and-true (leb (lowest f n) (max (lowest f n) (lowest g n))) (leb (lowest g n) (max (lowest f n) (lowest g n)))
+          (le-leb (lowest f n) (max (lowest f n) (lowest g n)) (omega arith))
+          (le-leb (lowest g n) (max (lowest f n) (lowest g n)) (omega arith)))
+      | no l ↦ omega arith
+    ] in
+    omega arith
 
 -- below the first position none passes
 pub some-none : (test : ℕ → Bool) → someBelow test 0 ≡ false

@@ -36,9 +36,8 @@ pub any-member : {A : Type 0} (P : A → Type 0) (xs : List A) → Any P xs → 
 any-member P (x ∷ xs) (inl h) = (x, inl refl, h)
 any-member P (x ∷ xs) (inr h) = let m = any-member P xs h in (m .0, inr (m .1), m .2)
 
--- Members of a list that is given place by place.
-
-all-from : {A : Type 0} (P : A → Type 0) (at : ℕ → A) (i n : ℕ) → All P (placesFrom at i n) ↔ ((k : ℕ) → i ≤ k → k < i + n → P (at k))
+-- Members of a list that is given place by place. All are P exactly where what stands at each place is: from a place on,
+pub all-from : {A : Type 0} (P : A → Type 0) (at : ℕ → A) (i n : ℕ) → All P (placesFrom at i n) ↔ ((k : ℕ) → i ≤ k → k < i + n → P (at k))
 unfolding placesFrom
 all-from P at i n = (to i n, fro i n)
   where
@@ -54,7 +53,7 @@ all-from P at i n = (to i n, fro i n)
     fro i zero h = tt
     fro i (suc n) h = (h i (omega arith) (omega arith), fro (suc i) n (λ k l m. h k (omega arith) (omega arith)))
 
--- all members are P exactly where what stands at each place is
+-- and from the first
 pub all-places : {A : Type 0} (P : A → Type 0) (at : ℕ → A) (n : ℕ) → All P (places at n) ↔ ((k : ℕ) → k < n → P (at k))
 unfolding places
 all-places P at n = (

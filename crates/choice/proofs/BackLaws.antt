@@ -49,7 +49,7 @@ back-length (job ∷ jobs) v x =
     (λ e. ap suc (back-length jobs (v - countOne job) (x - job .optional))) (λ e. ap suc (back-length jobs v x))
 
 -- what a list has at place i and after it, from what is left at i
-left-head : (l : List Bool) (i : ℕ) (x : Bool) (r : List Bool) → drop i l ≡ x ∷ r → (getD l i false ≡ x) × (drop (suc i) l ≡ r)
+pub left-head : (l : List Bool) (i : ℕ) (x : Bool) (r : List Bool) → drop i l ≡ x ∷ r → (getD l i false ≡ x) × (drop (suc i) l ≡ r)
 left-head l zero x r e = (rw e, rw e)
 left-head [] (suc i) x r e = let z : _≡_ {A = ℕ} 0 1 = cc in absurd (omega arith)
 left-head (y ∷ l) (suc i) x r e = left-head l i x r e

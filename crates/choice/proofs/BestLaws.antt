@@ -1,12 +1,20 @@
--- Laws of the best of some candidates: it fits, and no candidate that fits has a lesser key.
+-- Laws of the best of some candidates: it fits, and no candidate that fits has a lesser key. So is the best of all lists of one mark a job.
 use Prim.Native.Nat.{ℕ}
-use mathlib.Core.Path.{_≡_}
-use mathlib.Core.List.{List, [], _∷_, List·Memᴰ, List·Memᴰ·head, List·Memᴰ·tail}
-use mathlib.Core.Bool.{Bool, true}
+use mathlib.Core.Path.{_≡_, refl}
+use mathlib.Core.List.{List, [], _∷_, map, List·Memᴰ, List·Memᴰ·head, List·Memᴰ·tail, Memᴰ·append-left, Memᴰ·append-right, Memᴰ·map}
+use mathlib.Core.Bool.{Bool, true, false}
+use native.Mathlib.Omega.{arith}
+use lib.ListN.{length}
 use Rattle.base.specs.Tests.{and}
 use Rattle.base.proofs.TestLaws.{and-left, and-right, pick-cases, and-not-second}
-use Rattle.choice.specs.Choice.{lexLess, better, best}
+use Rattle.schedule.specs.declared.Job.{Job}
+use Rattle.choice.specs.Choice.{keepLists, keepNone, lexLess, better, best, bestList}
 use Rattle.choice.proofs.LexLaws.{LexAtMost, atMost-refl, atMost-trans, less→atMost, notLess→atMost}
+
+-- a candidate that passes the test of fitting, and whose key is at most that of every candidate that does
+pub record Best {A : Type 0} (passes : A → Bool) (key : A → List ℕ) (a : A) : Type 0 where
+  pub fit : passes a ≡ true
+  pub least : (other : A) → passes other ≡ true → LexAtMost (key a) (key other)
 
 module _ {A : Type 0} (fit : A → Bool) (key : A → List ℕ) where
   -- the better of two fits
@@ -50,3 +58,23 @@ module _ {A : Type 0} (fit : A → Bool) (key : A → List ℕ) where
   best-others a bs b (List·Memᴰ·head {xs = xs} q) e =
       rw (← q) (atMost-trans _ _ _ (best-first (better fit key a b) xs) (better-second a b e))
   best-others a bs b (List·Memᴰ·tail {x = x} {xs = xs} m) e = best-others (better fit key a x) xs b m e
+
+-- every list of one mark a job is among the keep lists
+pub length-among : (jobs : List Job) (keeps : List Bool) → length keeps ≡ length jobs → List·Memᴰ keeps (keepLists jobs)
+unfolding keepLists
+length-among [] [] n = List·Memᴰ·head refl
+length-among [] (keep ∷ keeps) n = absurd (omega arith)
+length-among (job ∷ jobs) [] n = absurd (omega arith)
+length-among (job ∷ jobs) (true ∷ keeps) n = Memᴰ·append-left _ (Memᴰ·map (λ l. true ∷ l) (length-among jobs keeps (omega arith)))
+length-among (job ∷ jobs) (false ∷ keeps) n =
+    Memᴰ·append-right (map (λ l. true ∷ l) (keepLists jobs)) (Memᴰ·map (λ l. false ∷ l) (length-among jobs keeps (omega arith)))
+
+-- The best list is best, where only lists of one mark a job fit and the one that keeps nothing does.
+pub best-of-all : (fit : List Bool → Bool) (key : List Bool → List ℕ) (jobs : List Job) → fit (keepNone jobs) ≡ true
+    → ((other : List Bool) → fit other ≡ true → length other ≡ length jobs) → Best fit key (bestList fit key jobs)
+unfolding bestList
+best-of-all fit key jobs none marks =
+    record {
+      fit = best-fits fit key _ (keepLists jobs) none;
+      least = λ other e. best-others fit key _ (keepLists jobs) other (length-among jobs other (marks other e)) e;
+    }

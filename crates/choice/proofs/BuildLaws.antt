@@ -18,7 +18,7 @@ use Rattle.choice.specs.Choice.{fits, keepNone, countOne, kept, discarde
 use Rattle.choice.specs.Programme.{mandatorySum, outermostTicks, allWorth, ifRoom, keeping, row, greatest, bestWorth, byRows}
 use Rattle.choice.specs.Decisions.{rowPlaces, hugeTicks, rowOf, backOf, outerRow, keepsOver, jobsFrom, Rewritten, Decided}
 use Rattle.choice.proofs.ProgrammeLaws.{row-most, row-beyond}
-use Rattle.choice.proofs.FitLaws.{ticks-outermost, worth-split}
+use Rattle.choice.proofs.FitLaws.{fits-length, ticks-outermost, worth-split}
 use Rattle.choice.proofs.ChoiceLaws.{chosen-rows, chosen-keeps}
 
 -- an optional part counts 1 at most
@@ -212,7 +212,7 @@ unfolding byRows
 best-gives jobs most o none e =
     let list = chosen-keeps countOne hugeTicks jobs o none in
     let ticks = ticks-outermost jobs (chosen jobs) (list .fit) in
-    let split = worth-split countOne jobs (chosen jobs) (list .fit) in
+    let split = worth-split countOne jobs (chosen jobs) (fits-length jobs _ (list .fit)) in
     rw e
     (record {
       below = omega (arith, list .ticks);

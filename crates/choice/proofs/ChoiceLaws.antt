@@ -1,93 +1,29 @@
 -- Laws of the choice: the chosen list is the one that the rules take, the rows give it, and it marks optional parts of 0 ticks as kept.
 use Prim.Native.Nat.{ℕ, zero, suc, _≤_, _<_}
-use mathlib.Core.Path.{_≡_, refl, sym, ap}
-use mathlib.Core.Logic.{_⊎_, inl, inr}
-use mathlib.Core.List.{List, [], _∷_, _++_, map, List·Memᴰ, List·Memᴰ·head, Memᴰ·append-left, Memᴰ·append-right, Memᴰ·map}
+use mathlib.Core.Path.{_≡_, refl, sym}
+use mathlib.Core.List.{List, [], _∷_}
 use mathlib.Core.Bool.{Bool, true, false}
 use native.Mathlib.Omega.{arith}
 use lib.ListN.{length, getD}
 use borrow.Author.Tests.{ltb-true}
-use Rattle.base.proofs.TestLaws.{both-absurd, pick-cases}
+use Rattle.base.proofs.TestLaws.{pick-cases}
 use Rattle.schedule.specs.declared.Job.{Job}
 use Rattle.schedule.specs.Jobs.{noJob, counts}
-use Rattle.choice.specs.Choice.{worksFit, worksOf, fits, keepLists, keepNone, keptTicks, discardMarks, discardedWorth, keptWorth}
-use Rattle.choice.specs.Choice.{key, chosenBy, KeepsFirst, MeetsRules, counted, chosen, ZeroKept}
+use Rattle.choice.specs.Choice.{fits, keepNone, keptTicks, discardedWorth, keptWorth, key, chosenBy, MeetsRules, counted, chosen, ZeroKept}
 use Rattle.choice.specs.Programme.{outermostTicks, allWorth, row, backtrack, bestWorth, byRows}
-use Rattle.choice.proofs.LexLaws.{LexAtMost, atMost-refl}
-use Rattle.choice.proofs.BestLaws.{best-fits, best-others}
-use Rattle.choice.proofs.FitLaws.{fits-tail, fits-length, none-fits, ticks-outermost, worth-split}
+use Rattle.choice.proofs.LexLaws.{LexAtMost}
+use Rattle.choice.proofs.BestLaws.{Best, best-of-all}
+use Rattle.choice.proofs.TieLaws.{marks-same, marks-least, atMost-first}
+use Rattle.choice.proofs.FitLaws.{fits-length, none-fits, ticks-outermost, worth-split}
 use Rattle.choice.proofs.ProgrammeLaws.{Keeps, row-least, backtrack-keeps, backtrack-first, greatest-is, backtrack-zero}
-
--- The tie rule.
-
--- marks that are at most one another are the same
-marks-same : (a b : List Bool) → LexAtMost (discardMarks a) (discardMarks b) → LexAtMost (discardMarks b) (discardMarks a) → a ≡ b
-unfolding LexAtMost
-marks-same [] [] p q = refl
-marks-same [] (y ∷ b) p q = absurd q
-marks-same (x ∷ a) [] p q = absurd p
-marks-same (true ∷ a) (true ∷ b) p q = ap (λ l. true ∷ l) (marks-same a b (p .1 refl) (q .1 refl))
-marks-same (true ∷ a) (false ∷ b) p q = absurd (omega arith)
-marks-same (false ∷ a) (true ∷ b) p q = absurd (omega arith)
-marks-same (false ∷ a) (false ∷ b) p q = ap (λ l. false ∷ l) (marks-same a b (p .1 refl) (q .1 refl))
-
--- of two lists with the same marks up to a job, the one that keeps there has the lesser marks
-split-atMost : (same restA restB : List Bool) → LexAtMost (discardMarks (same ++ true ∷ restA)) (discardMarks (same ++ false ∷ restB))
-unfolding LexAtMost
-split-atMost [] restA restB = (omega arith, λ e. absurd (omega arith))
-split-atMost (true ∷ same) restA restB = (omega arith, λ e. split-atMost same restA restB)
-split-atMost (false ∷ same) restA restB = (omega arith, λ e. split-atMost same restA restB)
-
--- so has a list that keeps at the outermost job where two differ
-first-atMost : (a b : List Bool) → KeepsFirst a b → LexAtMost (discardMarks a) (discardMarks b)
-first-atMost a b f = rw (f .keeps, f .discards) (split-atMost (f .same) (f .restA) (f .restB))
-
--- or is the same
-marks-least : (a b : List Bool) → (b ≡ a) ⊎ KeepsFirst a b → LexAtMost (discardMarks a) (discardMarks b)
-marks-least a b (inl e) = rw e (atMost-refl (discardMarks a))
-marks-least a b (inr f) = first-atMost a b f
-
--- one mark more, the same in both lists
-pub first-cons : (x : Bool) (a b : List Bool) → (b ≡ a) ⊎ KeepsFirst a b → (x ∷ b ≡ x ∷ a) ⊎ KeepsFirst (x ∷ a) (x ∷ b)
-first-cons x a b (inl e) = inl (ap (λ l. x ∷ l) e)
-first-cons x a b (inr f) =
-    inr (record {
-      same = x ∷ f .same;
-      restA = f .restA;
-      restB = f .restB;
-      keeps = ap (λ l. x ∷ l) (f .keeps);
-      discards = ap (λ l. x ∷ l) (f .discards);
-    })
-
--- of lists of one length, the one with the lesser marks keeps at the outermost job where they differ
-atMost-first : (a b : List Bool) → length a ≡ length b → LexAtMost (discardMarks a) (discardMarks b) → (b ≡ a) ⊎ KeepsFirst a b
-unfolding LexAtMost
-atMost-first [] [] n p = inl refl
-atMost-first [] (y ∷ b) n p = absurd (omega arith)
-atMost-first (x ∷ a) [] n p = absurd p
-atMost-first (true ∷ a) (true ∷ b) n p = first-cons true a b (atMost-first a b (omega arith) (p .1 refl))
-atMost-first (true ∷ a) (false ∷ b) n p = inr (record { same = []; restA = a; restB = b; keeps = refl; discards = refl })
-atMost-first (false ∷ a) (true ∷ b) n p = absurd (omega arith)
-atMost-first (false ∷ a) (false ∷ b) n p = first-cons false a b (atMost-first a b (omega arith) (p .1 refl))
-
--- every list that fits is among the keep lists
-among : (jobs : List Job) (keeps : List Bool) → fits jobs keeps ≡ true → List·Memᴰ keeps (keepLists jobs)
-unfolding worksFit worksOf keepLists
-among [] [] e = List·Memᴰ·head refl
-among [] (keep ∷ keeps) e = both-absurd false e refl
-among (job ∷ jobs) [] e = both-absurd false e refl
-among (job ∷ jobs) (true ∷ keeps) e = Memᴰ·append-left _ (Memᴰ·map (λ l. true ∷ l) (among jobs keeps (fits-tail job jobs true keeps e)))
-among (job ∷ jobs) (false ∷ keeps) e =
-    Memᴰ·append-right (map (λ l. true ∷ l) (keepLists jobs)) (Memᴰ·map (λ l. false ∷ l) (among jobs keeps (fits-tail job jobs false keeps e)))
 
 module _ (worth : Job → ℕ) where
   -- a list that fits, and whose key is at most that of every list that fits
-  pub record Best (jobs : List Job) (keeps : List Bool) : Type 0 where
-    pub fit : fits jobs keeps ≡ true
-    pub least : (other : List Bool) → fits jobs other ≡ true → LexAtMost (key worth jobs keeps) (key worth jobs other)
+  abbrev pub BestOf : List Job → List Bool → Type 0
+  BestOf jobs keeps = Best (fits jobs) (key worth jobs) keeps
 
   -- there is one such list at most
-  pub best-unique : (jobs : List Job) (a b : List Bool) → Best jobs a → Best jobs b → a ≡ b
+  pub best-unique : (jobs : List Job) (a b : List Bool) → BestOf jobs a → BestOf jobs b → a ≡ b
   unfolding LexAtMost key
   best-unique jobs a b p q =
       let l = p .least b (q .fit) in
@@ -97,7 +33,7 @@ module _ (worth : Job → ℕ) where
       marks-same a b (l .1 d .1 t) (m .1 (sym d) .1 (sym t))
 
   -- it is the list that the rules take
-  pub best-meets : (jobs : List Job) (keeps : List Bool) → Best jobs keeps → MeetsRules worth jobs keeps
+  pub best-meets : (jobs : List Job) (keeps : List Bool) → BestOf jobs keeps → MeetsRules worth jobs keeps
   unfolding LexAtMost key
   best-meets jobs keeps b =
       record {
@@ -109,7 +45,7 @@ module _ (worth : Job → ℕ) where
       }
 
   -- and the list that the rules take is it
-  pub meets-best : (jobs : List Job) (keeps : List Bool) → MeetsRules worth jobs keeps → Best jobs keeps
+  pub meets-best : (jobs : List Job) (keeps : List Bool) → MeetsRules worth jobs keeps → BestOf jobs keeps
   unfolding LexAtMost key
   meets-best jobs keeps t =
       record {
@@ -125,13 +61,9 @@ module _ (worth : Job → ℕ) where
   rules-unique jobs a b p q = best-unique jobs a b (meets-best jobs a p) (meets-best jobs b q)
 
   -- the chosen list is best
-  pub chosen-best : (jobs : List Job) → fits jobs (keepNone jobs) ≡ true → Best jobs (chosenBy worth jobs)
+  pub chosen-best : (jobs : List Job) → fits jobs (keepNone jobs) ≡ true → BestOf jobs (chosenBy worth jobs)
   unfolding chosenBy
-  chosen-best jobs none =
-      record {
-        fit = best-fits (fits jobs) (key worth jobs) _ (keepLists jobs) none;
-        least = λ other e. best-others (fits jobs) (key worth jobs) _ (keepLists jobs) other (among jobs other e) e;
-      }
+  chosen-best jobs none = best-of-all (fits jobs) (key worth jobs) jobs none (λ other e. fits-length jobs other e)
 
   -- The choice meets the rules: it fits, no list that fits discards less, of those that discard as much none keeps fewer ticks, and of those
   -- that keep as many every other discards at the outermost job where the two differ.
@@ -150,15 +82,15 @@ module _ (worth : Job → ℕ) where
 module _ (worth : Job → ℕ) (huge : ℕ) where
   -- the marks read back from the greatest worth are best
   backtrack-best : (jobs : List Job) (v x : ℕ) → row worth huge jobs v ≡ x → x < huge
-      → ((other : List Bool) → fits jobs other ≡ true → keptWorth worth jobs other ≤ v) → Best worth jobs (backtrack worth huge jobs v x)
+      → ((other : List Bool) → fits jobs other ≡ true → keptWorth worth jobs other ≤ v) → BestOf worth jobs (backtrack worth huge jobs v x)
   unfolding LexAtMost key
   backtrack-best jobs v x e l most =
       let f = backtrack-keeps worth huge jobs v x e l in
-      let all = worth-split worth jobs (backtrack worth huge jobs v x) (f .fit) in
+      let all = worth-split worth jobs (backtrack worth huge jobs v x) (fits-length jobs _ (f .fit)) in
       record {
         fit = f .fit;
         least = λ other s.
-            let all′ = worth-split worth jobs other s in
+            let all′ = worth-split worth jobs other (fits-length jobs other s) in
             let m = most other s in (
               omega arith,
               λ d.
@@ -173,10 +105,10 @@ module _ (worth : Job → ℕ) (huge : ℕ) where
       → (row worth huge jobs (bestWorth worth huge jobs) < huge) × (keptWorth worth jobs keeps ≤ bestWorth worth huge jobs)
   best-worth jobs o keeps e =
       greatest-is huge (row worth huge jobs) (allWorth worth jobs) (keptWorth worth jobs keeps)
-      (omega (arith, worth-split worth jobs keeps e)) (omega (arith, row-least worth huge jobs keeps e, ticks-outermost jobs keeps e))
+      (omega (arith, worth-split worth jobs keeps (fits-length jobs keeps e))) (omega (arith, row-least worth huge jobs keeps e, ticks-outermost jobs keeps e))
 
   -- the list that the rows give is best
-  pub rows-best : (jobs : List Job) → outermostTicks jobs < huge → fits jobs (keepNone jobs) ≡ true → Best worth jobs (byRows worth huge jobs)
+  pub rows-best : (jobs : List Job) → outermostTicks jobs < huge → fits jobs (keepNone jobs) ≡ true → BestOf worth jobs (byRows worth huge jobs)
   unfolding byRows
   rows-best jobs o none =
       backtrack-best jobs (bestWorth worth huge jobs) _ refl ((best-worth jobs o _ none) .0) (λ keeps e. (best-worth jobs o keeps e) .1)

@@ -88,15 +88,14 @@ ticks-outermost [] keeps e = omega arith
 ticks-outermost (job ∷ jobs) [] e = omega arith
 ticks-outermost (job ∷ jobs) (keep ∷ keeps) e = omega (arith, fits-room job jobs keep keeps e)
 
--- what is discarded and what is kept are all worth
-pub worth-split : (worth : Job → ℕ) (jobs : List Job) (keeps : List Bool) → fits jobs keeps ≡ true
+-- of a list of one mark a job, what is discarded and what is kept are all worth
+pub worth-split : (worth : Job → ℕ) (jobs : List Job) (keeps : List Bool) → length keeps ≡ length jobs
     → discardedWorth worth jobs keeps + keptWorth worth jobs keeps ≡ allWorth worth jobs
-unfolding worksFit worksOf discardedWorth keptWorth allWorth
-worth-split worth [] [] e = refl
-worth-split worth [] (keep ∷ keeps) e = both-absurd false e refl
-worth-split worth (job ∷ jobs) [] e = both-absurd false e refl
-worth-split worth (job ∷ jobs) (true ∷ keeps) e = omega (arith, worth-split worth jobs keeps (fits-tail job jobs true keeps e))
-worth-split worth (job ∷ jobs) (false ∷ keeps) e = omega (arith, worth-split worth jobs keeps (fits-tail job jobs false keeps e))
+unfolding discardedWorth keptWorth allWorth
+worth-split worth [] keeps n = refl
+worth-split worth (job ∷ jobs) [] n = absurd (omega arith)
+worth-split worth (job ∷ jobs) (true ∷ keeps) n = omega (arith, worth-split worth jobs keeps (omega arith))
+worth-split worth (job ∷ jobs) (false ∷ keeps) n = omega (arith, worth-split worth jobs keeps (omega arith))
 
 -- what the first job adds to the number kept
 pub kept-cons : (job : Job) (jobs : List Job) (keep : Bool) (keeps : List Bool)

@@ -2,6 +2,7 @@ pub mod LexLaws
 pub mod WorkLaws
 pub mod FitLaws
 pub mod BestLaws
+pub mod TieLaws
 pub mod ProgrammeLaws
 pub mod ChoiceLaws
 pub mod RewriteLaws

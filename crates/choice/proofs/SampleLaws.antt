@@ -4,13 +4,13 @@ use mathlib.Core.Path.{_≡_, refl}
 use mathlib.Core.List.{[], _∷_}
 use mathlib.Core.Bool.{true, false}
 use Rattle.base.specs.Members.{All}
-use Rattle.choice.specs.Choice.{total, worksFit, worksOf, keepLists, keptTicks, lexLess, discardedWorth, key, better, best, chosenBy, counted, countOne}
+use Rattle.choice.specs.Choice.{total, worksFit, worksOf, keepLists, keptTicks, lexLess, discardedWorth, key, better, best, bestList, chosenBy, counted, countOne}
 use Rattle.choice.specs.Programme.{mandatorySum, allWorth, ifRoom, keeping, row, greatest, backtrack, byRows}
 use Rattle.choice.specs.ChoiceSamples.{p8Jobs, choiceSamples, SampleHolds}
 
 -- The choice gives the marks of every sample.
 pub choice-samples : All SampleHolds choiceSamples
-unfolding total worksFit worksOf keepLists keptTicks lexLess discardedWorth key better best chosenBy
+unfolding total worksFit worksOf keepLists keptTicks lexLess discardedWorth key better best bestList chosenBy
 choice-samples = (refl, (refl, (refl, (refl, (refl, tt)))))
 
 -- So do the rows.
@@ -22,5 +22,5 @@ row-samples = (refl, (refl, (refl, (refl, (refl, tt)))))
 pub worth-samples :
     (chosenBy (counted (λ job. job .position + 1)) p8Jobs ≡ false ∷ true ∷ true ∷ [])
     × (chosenBy (counted (λ job. 3 - job .position)) p8Jobs ≡ true ∷ true ∷ false ∷ [])
-unfolding total worksFit worksOf keepLists keptTicks lexLess discardedWorth key better best chosenBy
+unfolding total worksFit worksOf keepLists keptTicks lexLess discardedWorth key better best bestList chosenBy
 worth-samples = (refl, refl)

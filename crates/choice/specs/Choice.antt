@@ -1,4 +1,4 @@
--- Which optional parts a plan keeps. Jobs stand outermost first (nest order from its last to its first), and so do the marks of a keep list:
+-- Which optional parts a plan keeps. Jobs stand last first in the order of their table's kind, in a nested table outermost first, and so do the marks:
 -- true keeps the optional part of its job, false discards it. The jobs before one in nest order are those after it in the list.
 use Prim.Native.Nat.{ℕ, _+_, _≤_}
 use mathlib.Core.Path.{_≡_}
@@ -54,7 +54,7 @@ keptTicks [] keeps = 0
 keptTicks (job ∷ jobs) [] = 0
 keptTicks (job ∷ jobs) (keep ∷ keeps) = pick keep (job .optional) 0 + keptTicks jobs keeps
 
--- the marks as numbers, less for a part that is kept: of two lists the less, in the order below, keeps at the outermost job where they differ
+-- the marks as numbers, less for a part that is kept: of two lists the less, in the order below, keeps at the last job where they differ
 abbrev pub discardMarks : List Bool → List ℕ
 discardMarks keeps = map (λ keep. one (not keep)) keeps
 
@@ -76,6 +76,11 @@ module _ {A : Type 0} (fit : A → Bool) (key : A → List ℕ) where
   best a [] = a
   best a (b ∷ bs) = best (better a b) bs
 
+-- 'Among fitting lists the planner takes' the best of all lists of one mark a job. Where the list that keeps nothing does not fit, no list does,
+-- and there is no plan. The nested and the similar choice are its instances.
+unfoldable pub bestList : (List Bool → Bool) → (List Bool → List ℕ) → List Job → List Bool
+bestList fit key jobs = best fit key (keepNone jobs) (keepLists jobs)
+
 -- The choice, over a worth of each optional part.
 module _ (worth : Job → ℕ) where
   -- what the discarded optional parts are worth
@@ -95,14 +100,14 @@ module _ (worth : Job → ℕ) where
   unfoldable pub key : List Job → List Bool → List ℕ
   key jobs keeps = discardedWorth jobs keeps ∷ keptTicks jobs keeps ∷ discardMarks keeps
 
-  -- 'Among fitting lists the planner takes' the best of all. Where the list that keeps nothing does not fit, no list does, and there is no plan.
+  -- the best of all lists that fit, by these rules
   unfoldable pub chosenBy : List Job → List Bool
-  chosenBy jobs = best (fits jobs) (key jobs) (keepNone jobs) (keepLists jobs)
+  chosenBy jobs = bestList (fits jobs) (key jobs) jobs
 
 -- What the rules ask of the list that is taken, rule by rule, as statements about every other list that fits. The choice meets them, and no other
 -- list does: the theorems `chosen-meets` and `meets-chosen`.
 
--- two lists differ, and at the outermost job where they do, the first keeps: up to that job both have the marks `same`
+-- two lists differ, and at the last job where they do, in a nested table the outermost, the first keeps: before it in the list both have the marks `same`
 pub record KeepsFirst (a b : List Bool) : Type 0 where
   pub same : List Bool
   pub restA : List Bool
@@ -140,9 +145,9 @@ discarded = discardedWorth countOne
 abbrev pub chosen : List Job → List Bool
 chosen = chosenBy countOne
 
--- what the choice comes to for some jobs: their keep list, and its counts kept and discarded
-abbrev pub ChosenFor : List Job → List Bool → ℕ → ℕ → Type 0
-ChosenFor jobs keeps k d = (keeps ≡ chosen jobs) × (k ≡ kept jobs (chosen jobs)) × (d ≡ discarded jobs (chosen jobs))
+-- what a choice comes to for some jobs: the keep list that is taken, and its counts kept and discarded
+abbrev pub ChosenFor : List Bool → List Job → List Bool → ℕ → ℕ → Type 0
+ChosenFor taken jobs keeps k d = (keeps ≡ taken) × (k ≡ kept jobs taken) × (d ≡ discarded jobs taken)
 
 -- 'An optional part of 0 ticks is marked 1': the list has one mark a job, and true for each such part
 abbrev pub ZeroKept : List Job → List Bool → Type 0

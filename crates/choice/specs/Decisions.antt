@@ -1,4 +1,4 @@
--- For the proofs of choosing's code alone: what the code holds of the rows. The numbers of the outermost row so far, and of each row the decisions of its job, whether it is kept on the
+-- For the proofs of choosing's and sequencing's code alone: what the code holds of the rows. The numbers of the outermost row so far, and of each row the decisions of its job, whether it is kept on the
 -- way back. The decisions of all jobs stand in one list, row after row.
 use Prim.Native.Nat.{ℕ, _+_, _*_, _-_, _≤_, _<_, min}
 use mathlib.Core.Path.{_≡_}

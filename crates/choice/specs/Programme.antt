@@ -1,4 +1,4 @@
--- For the proofs of choosing's code alone: the choice of optional parts by dynamic programming, as the code computes it: one row of numbers a job, from the innermost job outwards, and
+-- For the proofs of choosing's and sequencing's code alone: the choice of optional parts by dynamic programming, as the code computes it: one row of numbers a job, from the innermost job outwards, and
 -- the marks read back from the outermost inwards. Jobs stand outermost first.
 use Prim.Native.Nat.{ℕ, zero, suc, _+_, _-_, min}
 use mathlib.Core.List.{List, [], _∷_}

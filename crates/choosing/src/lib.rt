@@ -1,4 +1,4 @@
-// The choice of optional parts: which of them a plan keeps. One row of numbers a job, from the innermost job outwards, each written over the last,
+// The choice of optional parts of nested jobs: which of them a plan keeps. One row of numbers a job, from the innermost job outwards, each written over the last,
 // and the marks read back from the outermost inwards, as the definitions in choice have them.
 ghost use mathlib.Core.Path.{_≡_};
 ghost use mathlib.Core.Bool.{true, false};
@@ -7,20 +7,20 @@ ghost use lib.ListN.{length, getD, replicate};
 ghost use Rattle.base.specs.Limits.{maxTasks, maxTicks};
 ghost use Rattle.base.specs.Places.{firstPlaces};
 ghost use Rattle.schedule.specs.Jobs.{noJob, Bounded};
-ghost use Rattle.choice.specs.Choice.{fits, keepNone, countOne, ChosenFor};
+ghost use Rattle.choice.specs.Choice.{fits, keepNone, countOne, chosen, ChosenFor};
 ghost use Rattle.choice.specs.Programme.{ifRoom, greatest, keeping};
 ghost use Rattle.choice.specs.Decisions.{rowPlaces, hugeTicks, rowOf, backOf, Decided, RowMade, DecisionsPut, RowsMade};
 use base::MAX_TASKS;
 use schedule::Job;
 
 // The places of a row: one for each number of optional parts that a list can keep, 0 among them.
-const PLACES: usize = MAX_TASKS + 1;
+pub const PLACES: usize = MAX_TASKS + 1;
 
 // The places of the decisions: a row for each job. That of job k at v parts stands at place PLACES * k + v.
 const ALL_PLACES: usize = PLACES * MAX_TASKS;
 
-// What stands in a row where no list fits: more than any window has ticks.
-const HUGE: u32 = 1_073_741_824;
+// What stands in a row where no list fits: more than any deadline, and so more than any window has ticks.
+pub const HUGE: u32 = 1_073_741_824;
 
 // What the choice comes to: the keep list, in the order of the jobs, and the counts of optional parts above 0 ticks that it keeps and discards.
 pub struct Choice {
@@ -30,7 +30,7 @@ pub struct Choice {
 }
 
 // What a job counts: 1 where its optional part has ticks, and else 0.
-fn worth(job: Job) -> usize
+pub fn worth(job: Job) -> usize
     ensures { λ r. ⌜ r ≡ countOne job ⌝ }
 {
     if 0 < job.optional {
@@ -116,7 +116,7 @@ fn rows_of(jobs: [Job; MAX_TASKS], count: usize, row: &mut [u32], keep: &mut [bo
 }
 
 // The most parts that a list that fits keeps, of `most`: the greatest place up to it at which the row is below huge.
-fn most_kept(row: &[u32], most: usize) -> usize
+pub fn most_kept(row: &[u32], most: usize) -> usize
     requires { ⌜ most < length (now row) ⌝ }
     ensures { λ r. ⌜ r ≡ greatest hugeTicks (λ v. getD (now (row .entry)) v 0) most ⌝ }
 {
@@ -164,7 +164,7 @@ pub fn choose(jobs: [Job; MAX_TASKS], count: usize) -> Choice
     requires { ⌜ count ≤ maxTasks ⌝ }
     requires { ⌜ ((k : ℕ) → k < count → Bounded (getD jobs k noJob)) ⌝ }
     requires { ⌜ fits (firstPlaces noJob jobs count) (keepNone (firstPlaces noJob jobs count)) ≡ true ⌝ }
-    ensures { λ r. ⌜ ChosenFor (firstPlaces noJob jobs count) (firstPlaces false (r .keeps) count) (r .kept) (r .discarded) ⌝ }
+    ensures { λ r. ⌜ ChosenFor (chosen (firstPlaces noJob jobs count)) (firstPlaces noJob jobs count) (firstPlaces false (r .keeps) count) (r .kept) (r .discarded) ⌝ }
 {
     let mut row = [HUGE; PLACES];
     let mut decisions = [false; ALL_PLACES];

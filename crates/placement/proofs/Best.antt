@@ -6,16 +6,17 @@ use mathlib.Core.List.{List, [], _∷_}
 use mathlib.Core.Bool.{Bool, true, false, not}
 use native.Mathlib.Omega.{arith}
 use lib.Dec.{eqb}
+use lib.ListN.{length}
 use borrow.Author.Tests.{ne-eqb, eq-eqb, ltb-true}
 use Rattle.base.specs.Tests.{and}
-use Rattle.base.proofs.TestLaws.{cases, both-absurd}
+use Rattle.base.proofs.TestLaws.{cases}
 use Rattle.schedule.specs.declared.Job.{Job}
 use Rattle.schedule.specs.Jobs.{counts, workWith}
 use Rattle.schedule.specs.Ticks.{Owner}
 use Rattle.schedule.specs.Runnings.{got, RunningOf, Whole, Running, discards}
 use Rattle.base.specs.Members.{All}
 use Rattle.choice.specs.Choice.{worksFit, worksOf, fits, keepNone, discardedWorth, countOne, discarded, chosen}
-use Rattle.choice.proofs.FitLaws.{fits-tail, none-fits, discarded-cons}
+use Rattle.choice.proofs.FitLaws.{fits-length, none-fits, discarded-cons}
 use Rattle.choice.proofs.ChoiceLaws.{chosen-meets}
 use Rattle.placement.specs.Chains.{Chain}
 use Rattle.placement.specs.Placing.{worksPlaced, placed}
@@ -24,7 +25,7 @@ use Rattle.placement.proofs.Necessity.{marksOf, running-fits, running-d
 use Rattle.placement.proofs.Sufficiency.{works-placed, fits-placed}
 
 -- jobs that get their works, and may get them, get what they may
-all-may : (May : Job → ℕ → Type 0) (owner : Owner) (jobs : List Job) (works : List ℕ) → GetsWorks jobs works owner → MayGet May jobs works
+pub all-may : (May : Job → ℕ → Type 0) (owner : Owner) (jobs : List Job) (works : List ℕ) → GetsWorks jobs works owner → MayGet May jobs works
     → All (λ job. May job (got owner job)) jobs
 all-may May owner [] works g m = tt
 all-may May owner (job ∷ jobs) [] g m = absurd g
@@ -42,13 +43,13 @@ mark-may : (job : Job) (keep : Bool) → Whole job (workWith job keep)
 mark-may job true = inr refl
 mark-may job false = inl (omega arith)
 
--- so are the works under a keep list that fits
-pub marks-may : (jobs : List Job) (keeps : List Bool) → fits jobs keeps ≡ true → MayGet Whole jobs (worksOf jobs keeps)
-unfolding worksOf worksFit
-marks-may [] [] e = tt
-marks-may [] (keep ∷ keeps) e = both-absurd false e refl
-marks-may (job ∷ jobs) [] e = both-absurd false e refl
-marks-may (job ∷ jobs) (keep ∷ keeps) e = (mark-may job keep, marks-may jobs keeps (fits-tail job jobs keep keeps e))
+-- so are the works under a list of one mark a job
+pub marks-may : (jobs : List Job) (keeps : List Bool) → length keeps ≡ length jobs → MayGet Whole jobs (worksOf jobs keeps)
+unfolding worksOf
+marks-may [] [] n = tt
+marks-may [] (keep ∷ keeps) n = absurd (omega arith)
+marks-may (job ∷ jobs) [] n = absurd (omega arith)
+marks-may (job ∷ jobs) (keep ∷ keeps) n = (mark-may job keep, marks-may jobs keeps (omega arith))
 
 -- for an optional part above 0 ticks: its job gets the mandatory ticks alone exactly where it is not kept
 work-discards : (g : ℕ) (job : Job) (keep : Bool) → g ≡ workWith job keep → and (counts job) (eqb g (job .mandatory)) ≡ and (counts job) (not keep)
@@ -66,7 +67,7 @@ list-discards owner (job ∷ jobs) (keep ∷ keeps) g =
 
 -- A list that fits, placed, is a running.
 pub placed-running : (jobs : List Job) (keeps : List Bool) → Chain jobs → fits jobs keeps ≡ true → Running jobs (placed jobs keeps)
-placed-running jobs keeps c e = works-running Whole jobs (worksOf jobs keeps) c e (marks-may jobs keeps e)
+placed-running jobs keeps c e = works-running Whole jobs (worksOf jobs keeps) c e (marks-may jobs keeps (fits-length jobs keeps e))
 
 -- In it each job gets its work under its mark.
 pub placed-work : (jobs : List Job) (keeps : List Bool) → Chain jobs → fits jobs keeps ≡ true → GetsWork jobs keeps (placed jobs keeps)

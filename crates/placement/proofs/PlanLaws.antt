@@ -7,18 +7,18 @@ use lib.ListN.{getD}
 use Rattle.schedule.specs.declared.Job.{Job}
 use Rattle.schedule.specs.Jobs.{workOf}
 use Rattle.schedule.specs.Ticks.{Owner, one}
-use Rattle.schedule.specs.Runnings.{got, Whole}
+use Rattle.schedule.specs.Runnings.{got, RunningOf, Whole}
 use Rattle.base.specs.Members.{All}
 use Rattle.schedule.specs.declared.Run.{Run}
 use Rattle.schedule.specs.Runs.{ownerOf, TogetherOf, Together}
 use Rattle.choice.specs.Choice.{worksFit, worksOf, fits}
-use Rattle.choice.proofs.FitLaws.{work-mark}
+use Rattle.choice.proofs.FitLaws.{work-mark, fits-length}
 use Rattle.placement.specs.Chains.{Chain}
 use Rattle.placement.specs.Placing.{worksPlaced, placed, stretches}
 use Rattle.placement.specs.Outcomes.{GetsWorks, MayGet}
-use Rattle.placement.proofs.Best.{marks-may}
+use Rattle.placement.proofs.Best.{marks-may, works-running}
 use Rattle.placement.proofs.Sufficiency.{works-placed}
-use Rattle.placement.proofs.RunOrder.{works-listed, works-runs-running}
+use Rattle.placement.proofs.RunOrder.{Listed, works-listed}
 use Rattle.placement.proofs.Permutations.{Permuted, all-among, among-permuted, running-of-permuted}
 
 -- numbers by position that say the works of jobs, which stand in the order of the jobs
@@ -40,16 +40,21 @@ work-numbers workBy owner (job ∷ jobs) [] numbers s g = absurd s
 work-numbers workBy owner (job ∷ jobs) (work ∷ works) numbers s g =
     (g .0 ∙ sym (s .0), work-numbers workBy owner jobs works numbers (s .1) (g .1))
 
+-- Runs that say who has each tick of a running in which each job gets its work, and numbers that say the works, are together a running.
+pub listed-together : (May : Job → ℕ → Type 0) (workBy : Job → ℕ → ℕ) (owner : Owner) (jobs : List Job) (works numbers : List ℕ) (runs : List Run)
+    → Listed owner runs → RunningOf May jobs owner → GetsWorks jobs works owner → SayWorks workBy jobs works numbers
+    → TogetherOf May workBy jobs numbers runs
+listed-together May workBy owner jobs works numbers runs l r g s =
+    let same : ownerOf runs ≡ owner = fun-ext (l .says) in
+    record { running = rw same r; work = rw same (work-numbers workBy owner jobs works numbers s g) }
+
 -- Where works fit and each job may get its work, the numbers and the runs of the placing are together a running.
 pub works-together : (May : Job → ℕ → Type 0) (workBy : Job → ℕ → ℕ) (jobs : List Job) (works numbers : List ℕ) → Chain jobs
     → worksFit jobs works ≡ true → MayGet May jobs works → SayWorks workBy jobs works numbers → (b : ℕ) → All (λ job. job .deadline ≤ b) jobs
     → TogetherOf May workBy jobs numbers (stretches (worksPlaced jobs works) b)
 works-together May workBy jobs works numbers c e m s b a =
-    let same : ownerOf (stretches (worksPlaced jobs works) b) ≡ worksPlaced jobs works = fun-ext (works-listed jobs works c e b a .says) in
-    record {
-      running = works-runs-running May jobs works c e m b a;
-      work = rw same (work-numbers workBy (worksPlaced jobs works) jobs works numbers s (works-placed jobs works c e .work));
-    }
+    listed-together May workBy (worksPlaced jobs works) jobs works numbers (stretches (worksPlaced jobs works) b) (works-listed jobs works c e b a)
+    (works-running May jobs works c e m) (works-placed jobs works c e .work) s
 
 -- marks by position, 1 kept and 0 discarded, that say the same as a keep list in the order of the jobs
 abbrev pub SameMarks : List Job → List Bool → List ℕ → Type 0
@@ -59,7 +64,7 @@ SameMarks (job ∷ jobs) [] marks = ⊥
 SameMarks (job ∷ jobs) (keep ∷ keeps) marks = (getD marks (job .position) 0 ≡ one keep) × SameMarks jobs keeps marks
 
 -- they say its works
-marks-say : (jobs : List Job) (keeps : List Bool) (marks : List ℕ) → SameMarks jobs keeps marks → SayWorks workOf jobs (worksOf jobs keeps) marks
+pub marks-say : (jobs : List Job) (keeps : List Bool) (marks : List ℕ) → SameMarks jobs keeps marks → SayWorks workOf jobs (worksOf jobs keeps) marks
 unfolding worksOf
 marks-say [] [] marks s = tt
 marks-say [] (keep ∷ keeps) marks s = absurd s
@@ -70,7 +75,7 @@ marks-say (job ∷ jobs) (keep ∷ keeps) marks s = (ap (workOf job) (s .0) ∙ 
 pub placed-together : (jobs : List Job) (keeps : List Bool) (marks : List ℕ) → Chain jobs → fits jobs keeps ≡ true → SameMarks jobs keeps marks
     → (b : ℕ) → All (λ job. job .deadline ≤ b) jobs → Together jobs marks (stretches (placed jobs keeps) b)
 placed-together jobs keeps marks c e s b a =
-    works-together Whole workOf jobs (worksOf jobs keeps) marks c e (marks-may jobs keeps e) (marks-say jobs keeps marks s) b a
+    works-together Whole workOf jobs (worksOf jobs keeps) marks c e (marks-may jobs keeps (fits-length jobs keeps e)) (marks-say jobs keeps marks s) b a
 
 -- Numbers and runs that are together a running of jobs are one of the jobs in any order.
 pub together-of-permuted : (May : Job → ℕ → Type 0) (workBy : Job → ℕ → ℕ) (jobs others : List Job) (numbers : List ℕ) (runs : List Run)

@@ -19,6 +19,7 @@ use Rattle.schedule.specs.Runs.{ownerOf}
 use Rattle.schedule.specs.Judging.{noneEmpty, followFrom, inOrder}
 use Rattle.schedule.proofs.RunLaws.{in-holds, after-holds, free-before}
 use Rattle.choice.specs.Choice.{worksFit, worksOf, fits}
+use Rattle.choice.proofs.FitLaws.{fits-length}
 use Rattle.placement.specs.Chains.{Chain}
 use Rattle.placement.specs.Placing.{worksPlaced, placed, joinTick, joinTask, latestFirst, stretches}
 use Rattle.placement.specs.GapFilling.{worksFilled}
@@ -192,4 +193,4 @@ placed-few jobs keeps c e b a = works-few jobs (worksOf jobs keeps) c e b a
 
 pub placed-runs-running : (jobs : List Job) (keeps : List Bool) → Chain jobs → fits jobs keeps ≡ true → (b : ℕ) → All (λ job. job .deadline ≤ b) jobs
     → Running jobs (ownerOf (stretches (placed jobs keeps) b))
-placed-runs-running jobs keeps c e b a = works-runs-running Whole jobs (worksOf jobs keeps) c e (marks-may jobs keeps e) b a
+placed-runs-running jobs keeps c e b a = works-runs-running Whole jobs (worksOf jobs keeps) c e (marks-may jobs keeps (fits-length jobs keeps e)) b a

@@ -218,12 +218,21 @@ free-beyond owner jobs b tick h a l = owner-cases (owner tick) (λ e. e) (λ k e
     out (job ∷ jobs) k (inl q) a = let z = a .0 in omega arith
     out (job ∷ jobs) k (inr q) a = out jobs k q (a .1)
 
--- runs that say who has each tick below a top say so below a later one, where the ticks from the top on are free
-reads-more : (owner : Owner) (runs : List Run) (a b : ℕ) → Reads owner runs a → a ≤ b → ((tick : ℕ) → a ≤ tick → owner tick ≡ none)
-    → Reads owner runs b
-reads-more owner [] a b d h f = λ tick l. elim (decLe a tick) [ yes k ↦ f tick k | no k ↦ d tick (omega arith) ]
-reads-more owner (run ∷ runs) a b d h f =
-    (d .0, omega arith, λ tick l m. elim (decLe a tick) [ yes k ↦ f tick k | no k ↦ d .2 tick l (omega arith) ], d .3, d .4)
+-- runs that say who has each tick below a top say so for another owner below a later one, where the two agree up to the first and the ticks from
+-- there on are free
+pub reads-under : (owner other : Owner) (runs : List Run) (a b : ℕ) → Reads owner runs a → a ≤ b → ((tick : ℕ) → tick < a → other tick ≡ owner tick)
+    → ((tick : ℕ) → a ≤ tick → tick < b → other tick ≡ none) → Reads other runs b
+reads-under owner other [] a b d h same free =
+    λ tick l. elim (decLe a tick) [ yes k ↦ free tick k l | no k ↦ same tick (omega arith) ∙ d tick (omega arith) ]
+reads-under owner other (run ∷ runs) a b d h same free =
+    let s = d .0 in
+    let e = d .1 in (
+      s,
+      omega arith,
+      λ tick l m. elim (decLe a tick) [ yes k ↦ free tick k m | no k ↦ same tick (omega arith) ∙ d .2 tick l (omega arith) ],
+      λ tick l m. same tick (omega arith) ∙ d .3 tick l m,
+      reads-under owner other runs (run .start) (run .start) (d .4) (omega arith) (λ tick l. same tick (omega arith)) (λ tick l m. absurd (omega arith)),
+    )
 
 -- what is placed before a job has its ticks from the job's release on and is not the job's
 placed-inner : (owner : Owner) (job : Job) (jobs : List Job) → Chain (job ∷ jobs) → Inside jobs owner
@@ -256,10 +265,11 @@ filled-reads (job ∷ jobs) (w ∷ works) c e b a =
     let own = placed-inner owner job jobs c (works-placed jobs works inner fit .inside) in
     let ends = deadlines (job .release) (job .deadline) jobs (c .nested .0) in
     let ih = filled-reads jobs works inner fit (job .deadline) ends in (
-      reads-more after (fill i (job .release) (worksFilled jobs works) (job .deadline) w) (job .deadline) b
+      reads-under after after (fill i (job .release) (worksFilled jobs works) (job .deadline) w) (job .deadline) b
           (reads-fill owner after i (job .release) own (worksFilled jobs works) (job .deadline) w (ih .0) (λ n h. rw (lt-ltb n (job .deadline) h)))
           (a .0)
-          (λ n h. free-beyond after (job ∷ jobs) (job .deadline) n (works-placed (job ∷ jobs) (w ∷ works) c e .inside) (omega arith, ends) h),
+          (λ n h. refl)
+          (λ n h _. free-beyond after (job ∷ jobs) (job .deadline) n (works-placed (job ∷ jobs) (w ∷ works) c e .inside) (omega arith, ends) h),
       longest-fill i (job .release) (worksFilled jobs works) (job .deadline) w (ih .1)
           (others owner after i (job .release) own (worksFilled jobs works) (job .deadline) (ih .0)),
     )

@@ -15,6 +15,7 @@ use Rattle.schedule.specs.declared.Job.{Job}
 use Rattle.schedule.specs.Ticks.{Owner, isTask, one, countBelow}
 use Rattle.schedule.specs.Runnings.{WindowHolds, got}
 use Rattle.base.specs.Members.{All, Any}
+use Rattle.base.proofs.MemberLaws.{all-map}
 use Rattle.schedule.proofs.TickLaws.{count-grows, count-same, count-none}
 use Rattle.schedule.proofs.RunLaws.{owner-cases}
 use Rattle.choice.specs.Choice.{total, worksFit, worksOf, fits}
@@ -117,22 +118,26 @@ stranger i k (job ∷ jobs) tick d (inl h) = let n = d .0 in omega arith
 stranger i k (job ∷ jobs) tick d (inr h) = stranger i k jobs tick (d .1) h
 
 -- so no tick is its
-absent : (owner : Owner) (i : ℕ) (jobs : List Job) → All (λ n. i ≢ n) (positions jobs) → Inside jobs owner → (tick : ℕ) → isTask i (owner tick) ≡ false
+pub absent : (owner : Owner) (i : ℕ) (jobs : List Job) → All (λ n. i ≢ n) (positions jobs) → Inside jobs owner → (tick : ℕ) → isTask i (owner tick) ≡ false
 absent owner i jobs d h tick = owner-cases (owner tick) (λ e. rw e) (λ k e. rw e (ne-eqb k i (stranger i k jobs tick d (h tick k e))))
+
+-- where two owners give the same ticks to each job, the jobs get the same works
+pub same-works : (owner other : Owner) (jobs : List Job) (works : List ℕ)
+    → All (λ i. (tick : ℕ) → isTask i (other tick) ≡ isTask i (owner tick)) (positions jobs) → GetsWorks jobs works owner → GetsWorks jobs works other
+same-works owner other [] [] s g = tt
+same-works owner other [] (work ∷ works) s g = g
+same-works owner other (job ∷ jobs) [] s g = g
+same-works owner other (job ∷ jobs) (work ∷ works) s g =
+    let count : (n : ℕ) → countBelow (λ tick. isTask (job .position) (other tick)) n ≡ countBelow (λ tick. isTask (job .position) (owner tick)) n
+    = λ n. count-same (λ tick. isTask (job .position) (other tick)) (λ tick. isTask (job .position) (owner tick)) n (λ tick l. s .0 tick) in
+    (omega (arith, count (job .release), count (job .deadline), g .0), same-works owner other jobs works (s .1) (g .1))
 
 -- the other jobs keep what they have
 others-keep : (owner : Owner) (job : Job) (w : ℕ) (jobs : List Job) (works : List ℕ) → All (λ n. job .position ≢ n) (positions jobs)
     → GetsWorks jobs works owner → GetsWorks jobs works (placeJob owner job w)
-others-keep owner job w [] [] d g = tt
-others-keep owner job w [] (work ∷ works) d g = g
-others-keep owner job w (other ∷ jobs) [] d g = g
-others-keep owner job w (other ∷ jobs) (work ∷ works) d g =
-    let i = other .position in
-    let same : (n : ℕ) → countBelow (λ tick. isTask i (placeJob owner job w tick)) n ≡ countBelow (λ tick. isTask i (owner tick)) n
-    = λ n.
-    count-same (λ tick. isTask i (placeJob owner job w tick)) (λ tick. isTask i (owner tick)) n
-    (λ tick l. give-other (job .position) i (reachesBack owner job w tick) (owner tick) (d .0)) in
-    (omega (arith, same (other .release), same (other .deadline), g .0), others-keep owner job w jobs works (d .1) (g .1))
+others-keep owner job w jobs works d g =
+    same-works owner (placeJob owner job w) jobs works
+    (all-map _ _ (positions jobs) (λ i n tick. give-other (job .position) i (reachesBack owner job w tick) (owner tick) n) d) g
 
 -- every tick passes a test that always holds
 count-all : (n : ℕ) → countBelow (λ tick. true) n ≡ n

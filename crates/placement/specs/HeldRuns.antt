@@ -1,4 +1,4 @@
--- For the proofs of placing's code alone: the runs found so far, as the code holds them while jobs are filled in: by start, in columns, at the places from a first to an end.
+-- For the proofs of placing's and sequencing's code alone: the runs found so far, as the code holds them while jobs are filled in: by start, in columns, at the places from a first to an end.
 use Prim.Native.Nat.{ℕ, zero, suc, _+_, _-_, _≤_, _<_}
 use mathlib.Core.Path.{_≡_}
 use mathlib.Core.List.{List, [], _∷_, _++_}

@@ -1,4 +1,4 @@
-// The placing of work: which ticks each task gets, and the runs that they make. Jobs stand outermost first. The runs found so far stand by
+// The placing of nested jobs: which ticks each task gets, and the runs that they make. Jobs stand outermost first. The runs found so far stand by
 // start in three columns, and each job is filled into the gaps between them from its deadline downwards.
 ghost use mathlib.Core.Path.{_≡_};
 ghost use mathlib.Core.Bool.{true, false};
@@ -35,7 +35,7 @@ struct GapsFilled {
 }
 
 // The work of a job: its mandatory ticks, plus its optional ticks where kept.
-fn work_with(job: Job, keep: bool) -> u32
+pub fn work_with(job: Job, keep: bool) -> u32
     requires { ⌜ Bounded job ⌝ }
     ensures { λ r. ⌜ r ≡ workWith job keep ⌝ }
 {
