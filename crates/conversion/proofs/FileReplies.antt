@@ -13,7 +13,7 @@ use Rattle.table.specs.declared.Table.{Table}
 use Rattle.table.specs.declared.Written.{Written}
 use Rattle.table.specs.Answers.{isAccepted, wrote}
 use Rattle.table.specs.Layout.{fileLength, badCount, badPeriod}
-use Rattle.table.specs.Windows.{windowAnswer}
+use Rattle.table.specs.Kinds.{windowAnswer}
 use Rattle.table.specs.Writing.{firstTooWide, rowsReply, writeReply, writtenOver}
 use Rattle.table_text.specs.declared.Parsed.{Parsed}
 use Rattle.table.specs.Reading.{tableIn, readAnswer}

@@ -220,7 +220,7 @@ fn judge_table(table: Table, marks: &[u8], starts: &[u32], ends: &[u32], tasks: 
     says(false, 0, 0)
 }
 
-// Judging: any bytes, marks and columns get the reply of document 01.
+// Judging: any bytes, marks and columns get the reply of documents 01 and 02.
 pub fn judge(file: &[u8], marks: &[u8], starts: &[u32], ends: &[u32], tasks: &[u32]) -> Judged
     ensures reply { λ r. ⌜ r ≡ judged (now (file .entry)) (now (marks .entry)) (now (starts .entry)) (now (ends .entry)) (now (tasks .entry)) ⌝ }
     ensures sound { λ r. ⌜ Sound (now (file .entry)) (now (marks .entry)) (runsOf (now (starts .entry)) (now (ends .entry)) (now (tasks .entry))) r ⌝ }

@@ -105,7 +105,7 @@ fn moved_table(table: Table, shift: i32) -> Table
     Table::of_places(table.count, table.p, table.q, tasks)
 }
 
-// Moving: the file of any bytes, moved by any number of frames, gets the reply of document 01, and the file of the moved table is
+// Moving: the file of any bytes, moved by any number of frames, gets the reply of documents 01 and 02, and the file of the moved table is
 // written where nothing is refused.
 pub fn shift(file: &[u8], frames: i32, out: &mut [u8]) -> Written
     ensures reply { λ r. ⌜ r ≡ moveReply (now (file .entry)) frames (length (now (out .entry))) ⌝ }

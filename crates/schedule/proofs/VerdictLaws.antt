@@ -13,7 +13,7 @@ use Rattle.base.specs.Tests.{pick, and}
 use Rattle.base.specs.Lowest.{someBelow}
 use Rattle.base.specs.Places.{places}
 use Rattle.base.proofs.TestLaws.{cases, and-left, and-right}
-use Rattle.base.proofs.LowestLaws as lowest-laws
+use Rattle.base.proofs.LowestLaws.{some-same}
 use Rattle.base.proofs.PlaceLaws.{places-at}
 use Rattle.table.specs.declared.Table.{Table}
 use Rattle.table.specs.declared.Answer.the-variants.{Accepted}
@@ -29,11 +29,6 @@ use Rattle.schedule.specs.Judging.{noneEmpty, followFrom, inOrder, known
 use Rattle.schedule.proofs.TickLaws.{count-same}
 use Rattle.schedule.proofs.JudgeLaws.{judge-sound}
 use Rattle.schedule.specs.Passing.{passes, verdictByPass}
-
--- tests that agree below n
-some-same : (f g : ℕ → Bool) (n : ℕ) → ((k : ℕ) → k < n → f k ≡ g k) → someBelow f n ≡ someBelow g n
-unfolding someBelow
-some-same f g n h = ap (λ (m : ℕ). ltb m n) (lowest-laws.same f g n h)
 
 -- a run does not pass
 pub pass-fails : (job : ℕ → Job) (n : ℕ) (marks : List ℕ) (runs : List Run) → passes job n 0 runs ≡ false → false ≡ verdictByPass job n marks runs

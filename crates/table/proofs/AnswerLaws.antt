@@ -13,7 +13,7 @@ use Rattle.base.proofs.LowestLaws.{before, none-passes, same}
 use types.Run.{OneOf, miss}
 use denote.Enum.Declared.{tagOf}
 use Rattle.table.specs.declared.Answer.{Answer}
-use Rattle.table.specs.declared.Answer.the-variants.{Accepted, Short, Count, Long, Padding, Period, Window, Nesting}
+use Rattle.table.specs.declared.Answer.the-variants.{Accepted, Short, Count, Long, Padding, Period, Window, Kind}
 use Rattle.table.specs.declared.Written.{Written}
 use Rattle.table.specs.Answers.{numberOf, placeOf, isAccepted, firstRefusal, refusedAt, declined}
 use Rattle.table.proofs.Answer.{the-type}
@@ -34,7 +34,7 @@ told-refused (Long needed) o = refl
 told-refused Padding o = refl
 told-refused Period o = refl
 told-refused (Window position) o = refl
-told-refused (Nesting position) o = refl
+told-refused (Kind position) o = refl
 
 -- a refusal has a number that is not 0
 pub refused-number : (a : Answer) → isAccepted a ≡ false → eqb (numberOf a) 0 ≡ false
@@ -45,7 +45,7 @@ refused-number (Long needed) e = refl
 refused-number Padding e = refl
 refused-number Period e = refl
 refused-number (Window position) e = refl
-refused-number (Nesting position) e = refl
+refused-number (Kind position) e = refl
 
 -- no refusal of reading has a number above 7
 pub number-low : (a : Answer) → numberOf a ≤ 7
@@ -56,7 +56,7 @@ number-low (Long needed) = omega arith
 number-low Padding = omega arith
 number-low Period = omega arith
 number-low (Window position) = omega arith
-number-low (Nesting position) = omega arith
+number-low (Kind position) = omega arith
 
 -- an answer that refuses nothing is `Accepted`
 pub accepted-is : (a : Answer) → isAccepted a ≡ true → a ≡ Accepted
@@ -67,7 +67,7 @@ accepted-is (Long needed) e = both-absurd false e refl
 accepted-is Padding e = both-absurd false e refl
 accepted-is Period e = both-absurd false e refl
 accepted-is (Window position) e = both-absurd false e refl
-accepted-is (Nesting position) e = both-absurd false e refl
+accepted-is (Kind position) e = both-absurd false e refl
 
 -- where two answers in order refuse nothing, neither does
 pub firstRefusal-known : (a b : Answer) → firstRefusal a b ≡ Accepted → (a ≡ Accepted) × (b ≡ Accepted)

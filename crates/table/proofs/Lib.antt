@@ -1,8 +1,9 @@
 pub mod TableLaws
-pub mod WindowLaws
 pub mod AnswerLaws
+pub mod KindLaws
+pub mod WindowLaws
 pub mod RowFiles
-pub mod TableKinds
+pub mod RowTables
 pub mod FileLaws
 pub mod RoundTrip
 pub mod PrefixLaws

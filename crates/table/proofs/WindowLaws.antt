@@ -1,37 +1,36 @@
--- Laws of the rules for windows.
-use Prim.Native.Nat.{ℕ, _<_}
-use mathlib.Core.Path.{_≡_, ap}
+-- Laws of windows whose frames stand in two columns.
+use Prim.Native.Nat.{ℕ, _≤_, _<_}
+use mathlib.Core.Path.{_≡_, refl, sym}
 use mathlib.Core.List.{List}
-use mathlib.Core.Bool.{not}
 use native.Mathlib.Omega.{arith}
-use lib.Dec.{ltb}
-use Rattle.base.specs.Lowest.{someBelow}
+use lib.ListN.{getD}
+use Rattle.base.specs.Lowest.{lowest}
 use Rattle.base.proofs.LowestLaws.{same}
 use Rattle.table.specs.declared.Table.{Table}
-use Rattle.table.specs.declared.Answer.the-variants.{Window, Nesting}
 use Rattle.table.specs.Tables.{taskAt}
-use Rattle.table.specs.Windows.{reversed, contains, nested, crosses, forwardAnswer, nestingAnswer, windowAnswer}
-use Rattle.table.specs.WindowColumns.{columnCrosses, columnForward, columnNesting, columnsAnswer, FramesOf, windowAt}
-use Rattle.table.proofs.AnswerLaws.{refused-same}
+use Rattle.table.specs.Windows.{nested, similar}
+use Rattle.table.specs.Kinds.{failsEarlier, windowsAnswer, acceptedNested, windowAnswer}
+use Rattle.table.specs.WindowColumns.{windowAt, FramesOf, greatestNumber, Mirrored}
+use Rattle.table.proofs.KindLaws.{MirroredWindow, similar-mirrored, fails-alike, frames-alike, windows-alike, accepted-alike}
 
--- where two columns hold the frames of a table's tasks, what the windows of the columns answer is what those of the table answer
-module _ (t : Table) (releases deadlines : List ℕ) (frames : FramesOf (taskAt t) (t .count) releases deadlines) where
-  crosses-columns : (k : ℕ) → k < t .count → columnCrosses releases deadlines k ≡ crosses t k
-  unfolding columnCrosses crosses someBelow nested contains
-  crosses-columns k l =
-      ap (λ i. ltb i k)
-      (same (λ j. not (nested (windowAt releases deadlines j) (windowAt releases deadlines k))) (λ j. not (nested (taskAt t j) (taskAt t k))) k (λ j m.
-      rw (frames j (omega arith) .0, frames j (omega arith) .1, frames k l .0, frames k l .1)))
+-- Where two columns hold the frames of a table's tasks, what the windows of the columns answer is what those of the table answer.
+pub answer-columns : (t : Table) (releases deadlines : List ℕ) → FramesOf (taskAt t) (t .count) releases deadlines
+    → windowsAnswer (windowAt releases deadlines) (t .count) ≡ windowAnswer t
+unfolding windowAnswer
+answer-columns t releases deadlines frames = windows-alike (frames-alike (windowAt releases deadlines) (taskAt t) (t .count) frames)
 
-  forward-columns : columnForward releases deadlines (t .count) ≡ forwardAnswer t
-  unfolding columnForward forwardAnswer reversed
-  forward-columns =
-      refused-same Window (λ k. reversed (windowAt releases deadlines k)) (λ k. reversed (taskAt t k)) (t .count) (λ k l. rw (frames k l .0, frames k l .1))
+-- And so they are nested, where nothing is refused, as those of the table are.
+pub nested-columns : (t : Table) (releases deadlines : List ℕ) → FramesOf (taskAt t) (t .count) releases deadlines
+    → acceptedNested (windowAt releases deadlines) (t .count) ≡ acceptedNested (taskAt t) (t .count)
+nested-columns t releases deadlines frames = accepted-alike (frames-alike (windowAt releases deadlines) (taskAt t) (t .count) frames)
 
-  nesting-columns : columnNesting releases deadlines (t .count) ≡ nestingAnswer t
-  unfolding columnNesting nestingAnswer
-  nesting-columns = refused-same Nesting (columnCrosses releases deadlines) (crosses t) (t .count) crosses-columns
-
-  pub answer-columns : columnsAnswer releases deadlines (t .count) ≡ windowAnswer t
-  unfolding columnsAnswer windowAnswer
-  answer-columns = rw (forward-columns, nesting-columns)
+-- The first window that is not similar to some earlier one is the first that is not nested with some earlier one where the deadlines are mirrored.
+pub mirrored-first : (releases deadlines mirrored : List ℕ) (n : ℕ) → ((k : ℕ) → k < n → getD deadlines k 0 ≤ greatestNumber) → Mirrored n deadlines mirrored
+    → lowest (failsEarlier nested (windowAt releases mirrored)) n ≡ lowest (failsEarlier similar (windowAt releases deadlines)) n
+mirrored-first releases deadlines mirrored n small t =
+    let each : (k : ℕ) → k < n → MirroredWindow (windowAt releases deadlines k) (windowAt releases mirrored k) =
+    λ k l. record { release = refl; deadline = t k l; within-is = small k l } in
+    same (failsEarlier nested (windowAt releases mirrored)) (failsEarlier similar (windowAt releases deadlines)) n (λ k l.
+    fails-alike nested similar (windowAt releases mirrored) (windowAt releases deadlines) k (λ j m.
+    sym
+    (similar-mirrored (windowAt releases deadlines j) (windowAt releases deadlines k) (windowAt releases mirrored j) (windowAt releases mirrored k) (each j (omega arith)) (each k l))))

@@ -1,11 +1,11 @@
--- What reading answers, as document 01 prints it: for each case the number and the place.
+-- What reading answers, as document 01's table of refusals has it: for each case the number and the place.
 use Prim.Native.Nat.{ℕ}
 use mathlib.Core.Bool.{Bool, true, false}
 use lib.Dec.{ltb}
 use Rattle.base.specs.Tests.{pick}
 use Rattle.base.specs.Lowest.{lowest}
 use Rattle.table.specs.declared.Answer.{Answer}
-use Rattle.table.specs.declared.Answer.the-variants.{Accepted, Short, Count, Long, Padding, Period, Window, Nesting}
+use Rattle.table.specs.declared.Answer.the-variants.{Accepted, Short, Count, Long, Padding, Period, Window, Kind}
 use Rattle.table.specs.declared.Written.{Written}
 
 -- the number of a refusal; 0 where nothing is refused
@@ -17,7 +17,7 @@ numberOf (Long needed) = 3
 numberOf Padding = 4
 numberOf Period = 5
 numberOf (Window position) = 6
-numberOf (Nesting position) = 7
+numberOf (Kind position) = 7
 
 -- the place of a refusal: the file length, the length needed, a position, or 0
 abbrev pub placeOf : Answer → ℕ
@@ -28,7 +28,7 @@ placeOf (Long needed) = needed
 placeOf Padding = 0
 placeOf Period = 0
 placeOf (Window position) = position
-placeOf (Nesting position) = position
+placeOf (Kind position) = position
 
 -- nothing is refused
 abbrev pub isAccepted : Answer → Bool
@@ -39,7 +39,7 @@ isAccepted (Long needed) = false
 isAccepted Padding = false
 isAccepted Period = false
 isAccepted (Window position) = false
-isAccepted (Nesting position) = false
+isAccepted (Kind position) = false
 
 -- what two answers come to, one after the other: the first where it refuses, and else the second
 abbrev pub firstRefusal : Answer → Answer → Answer

@@ -2,6 +2,7 @@ pub mod Tables
 pub mod Layout
 pub mod Answers
 pub mod Windows
+pub mod Kinds
 pub mod WindowColumns
 pub mod Reading
 pub mod Writing

@@ -4,11 +4,13 @@ ghost use mathlib.Core.Bool.{not};
 ghost use Prim.Native.Nat.{_≤_, min};
 ghost use lib.ListN.{length, getD};
 ghost use Rattle.base.specs.Limits.{maxTasks};
+ghost use Rattle.base.specs.Tests.{and};
 ghost use Rattle.base.specs.Lowest.{lowest, someBelow};
 ghost use Rattle.table.specs.Tables.{noTask, noTable, tableOf};
-ghost use Rattle.table.specs.Answers.{numberOf, placeOf, declined, wrote};
-ghost use Rattle.table.specs.Windows.{reversed, contains, nested, windowAnswer};
-ghost use Rattle.table.specs.WindowColumns.{columnCrosses, columnForward, columnNesting, columnsAnswer, windowAt};
+ghost use Rattle.table.specs.Answers.{numberOf, placeOf, isAccepted, declined, wrote};
+ghost use Rattle.table.specs.Windows.{reversed, contains, nested};
+ghost use Rattle.table.specs.Kinds.{acceptedNested, failsEarlier, forwardAnswer, kindAnswer, nestingAnswer, ofNeitherKind, pairwise, windowAnswer, windowsAnswer};
+ghost use Rattle.table.specs.WindowColumns.{windowAt, Mirrored};
 ghost use Rattle.table.specs.Layout.{badCount, badPeriod, widestRow, rowsLength, fileLength, heldBytes};
 use base::MAX_PERIOD;
 use base::MAX_TASKS;
@@ -42,6 +44,9 @@ pub fn held_of(length: usize) -> usize
     }
     length
 }
+
+// The greatest number of 32 bits.
+const GREATEST: u32 = 4_294_967_295;
 
 // A task: its window in frames, and its two lengths in ticks.
 #[repr(C)]
@@ -84,13 +89,20 @@ pub enum Answer {
     Period,
     // A release frame is not below the deadline frame; the task's position.
     Window(usize),
-    // A window is not nested with an earlier one; the task's position.
-    Nesting(usize),
+    // The tasks up to some position are of no kind that is served; the position.
+    Kind(usize),
 }
 
-// The reply of reading: the answer, and the table beside it.
+// What the windows of a table answer, and whether they are nested, which is false where they are refused.
+pub struct WindowReply {
+    pub answer: Answer,
+    pub nested: bool,
+}
+
+// The reply of reading: the answer, whether the table is nested, which is false where reading refuses, and the table.
 pub struct Reading {
     pub answer: Answer,
+    pub nested: bool,
     pub table: Table,
 }
 
@@ -115,7 +127,7 @@ impl Answer {
             Answer::Padding => 4,
             Answer::Period => 5,
             Answer::Window(_) => 6,
-            Answer::Nesting(_) => 7,
+            Answer::Kind(_) => 7,
         }
     }
 
@@ -131,7 +143,7 @@ impl Answer {
             Answer::Padding => 0,
             Answer::Period => 0,
             Answer::Window(position) => position,
-            Answer::Nesting(position) => position,
+            Answer::Kind(position) => position,
         }
     }
 }
@@ -269,7 +281,7 @@ fn first_reversed(releases: &[u32], deadlines: &[u32], count: usize) -> usize
 // count where there is none.
 fn first_crossing(releases: &[u32], deadlines: &[u32], count: usize) -> usize
     requires { ⌜ (count ≤ length (now releases)) × (count ≤ length (now deadlines)) ⌝ }
-    ensures { λ r. ⌜ r ≡ lowest (columnCrosses (now (releases .entry)) (now (deadlines .entry))) count ⌝ }
+    ensures { λ r. ⌜ r ≡ lowest (failsEarlier nested (windowAt (now (releases .entry)) (now (deadlines .entry)))) count ⌝ }
 {
     let mut k: usize = 0;
     while k < count {
@@ -287,10 +299,42 @@ fn first_crossing(releases: &[u32], deadlines: &[u32], count: usize) -> usize
     k
 }
 
+// The first deadlines of a column mirrored: of two the later becomes the lesser. Windows are similar exactly where they are nested with their
+// deadlines mirrored.
+fn mirrored(deadlines: &[u32], count: usize) -> [u32; MAX_TASKS]
+    requires { ⌜ count ≤ maxTasks ⌝ }
+    requires { ⌜ count ≤ length (now deadlines) ⌝ }
+    ensures { λ r. ⌜ Mirrored count (now (deadlines .entry)) r ⌝ }
+{
+    let mut column = [0u32; MAX_TASKS];
+    let mut k: usize = 0;
+    while k < count {
+        column[k] = GREATEST - deadlines[k];
+        k += 1;
+    }
+    column
+}
+
+// The lowest position below the count such that the windows up to it are of neither kind, of windows that stand in two columns, and the count where
+// there is none. It is the greater of the first that crosses an earlier window, which is known, and the first that is not similar to one.
+fn first_of_neither(releases: &[u32], deadlines: &[u32], count: usize, crossing: usize) -> usize
+    requires { ⌜ count ≤ maxTasks ⌝ }
+    requires { ⌜ (count ≤ length (now releases)) × (count ≤ length (now deadlines)) ⌝ }
+    requires { ⌜ crossing ≡ lowest (failsEarlier nested (windowAt (now releases) (now deadlines))) count ⌝ }
+    ensures { λ r. ⌜ r ≡ lowest (ofNeitherKind (windowAt (now (releases .entry)) (now (deadlines .entry)))) count ⌝ }
+{
+    let column = mirrored(deadlines, count);
+    let dissimilar = first_crossing(releases, &column, count);
+    if dissimilar < crossing {
+        return crossing;
+    }
+    dissimilar
+}
+
 // The first of the windows in two columns that is reversed, as an answer.
 pub fn forward_answer(releases: &[u32], deadlines: &[u32], count: usize) -> Answer
     requires { ⌜ (count ≤ length (now releases)) × (count ≤ length (now deadlines)) ⌝ }
-    ensures { λ r. ⌜ r ≡ columnForward (now (releases .entry)) (now (deadlines .entry)) count ⌝ }
+    ensures { λ r. ⌜ r ≡ forwardAnswer (windowAt (now (releases .entry)) (now (deadlines .entry))) count ⌝ }
 {
     let reversed = first_reversed(releases, deadlines, count);
     if reversed < count {
@@ -299,28 +343,64 @@ pub fn forward_answer(releases: &[u32], deadlines: &[u32], count: usize) -> Answ
     Answer::Accepted
 }
 
-// The first of the windows in two columns that crosses an earlier one, as an answer.
+// The first position such that the windows in two columns up to it are of neither kind, as an answer, and whether the windows are nested. Where none
+// crosses an earlier one they are, and nothing else is looked for.
+pub fn kind_answer(releases: &[u32], deadlines: &[u32], count: usize) -> WindowReply
+    requires { ⌜ count ≤ maxTasks ⌝ }
+    requires { ⌜ (count ≤ length (now releases)) × (count ≤ length (now deadlines)) ⌝ }
+    ensures { λ r. ⌜ r .answer ≡ kindAnswer (windowAt (now (releases .entry)) (now (deadlines .entry))) count ⌝ }
+    ensures { λ r. ⌜ r .nested
+        ≡ and (isAccepted (kindAnswer (windowAt (now (releases .entry)) (now (deadlines .entry))) count))
+        (pairwise nested (windowAt (now (releases .entry)) (now (deadlines .entry))) count) ⌝ }
+{
+    let crossing = first_crossing(releases, deadlines, count);
+    if count <= crossing {
+        return WindowReply {
+            answer: Answer::Accepted,
+            nested: true,
+        };
+    }
+    let neither = first_of_neither(releases, deadlines, count, crossing);
+    if neither < count {
+        return WindowReply {
+            answer: Answer::Kind(neither),
+            nested: false,
+        };
+    }
+    WindowReply {
+        answer: Answer::Accepted,
+        nested: false,
+    }
+}
+
+// The first of the windows in two columns that crosses an earlier one, as an answer: for readers and planners of nested tables alone.
 pub fn nesting_answer(releases: &[u32], deadlines: &[u32], count: usize) -> Answer
     requires { ⌜ (count ≤ length (now releases)) × (count ≤ length (now deadlines)) ⌝ }
-    ensures { λ r. ⌜ r ≡ columnNesting (now (releases .entry)) (now (deadlines .entry)) count ⌝ }
+    ensures { λ r. ⌜ r ≡ nestingAnswer (windowAt (now (releases .entry)) (now (deadlines .entry))) count ⌝ }
 {
     let crossing = first_crossing(releases, deadlines, count);
     if crossing < count {
-        return Answer::Nesting(crossing);
+        return Answer::Kind(crossing);
     }
     Answer::Accepted
 }
 
-// What the windows in two columns answer: the first that is reversed, else the first that crosses an earlier one, else nothing refused.
-pub fn columns_answer(releases: &[u32], deadlines: &[u32], count: usize) -> Answer
+// What the windows in two columns answer: the first that is reversed, else the first up to which they are of neither kind, else nothing refused; and
+// whether they are nested.
+pub fn columns_answer(releases: &[u32], deadlines: &[u32], count: usize) -> WindowReply
+    requires { ⌜ count ≤ maxTasks ⌝ }
     requires { ⌜ (count ≤ length (now releases)) × (count ≤ length (now deadlines)) ⌝ }
-    ensures { λ r. ⌜ r ≡ columnsAnswer (now (releases .entry)) (now (deadlines .entry)) count ⌝ }
+    ensures { λ r. ⌜ r .answer ≡ windowsAnswer (windowAt (now (releases .entry)) (now (deadlines .entry))) count ⌝ }
+    ensures { λ r. ⌜ r .nested ≡ acceptedNested (windowAt (now (releases .entry)) (now (deadlines .entry))) count ⌝ }
 {
     let forward = forward_answer(releases, deadlines, count);
     let Answer::Accepted = forward else {
-        return forward;
+        return WindowReply {
+            answer: forward,
+            nested: false,
+        };
     };
-    nesting_answer(releases, deadlines, count)
+    kind_answer(releases, deadlines, count)
 }
 
 impl Table {
@@ -360,8 +440,8 @@ impl Table {
         Table::new(0, 0, 0, [NO_TASK; MAX_TASKS])
     }
 
-    // What the windows of a table answer: the first that is reversed, else the first that crosses an earlier one, else nothing refused. Their frames
-    // are put in two columns, so that the searches need not be lent the table.
+    // What the windows of a table answer: the first that is reversed, else the first up to which they are of neither kind, else nothing refused. Their
+    // frames are put in two columns, so that the searches need not be lent the table.
     pub fn window_answer(self) -> Answer
         requires { ⌜ self .count ≤ maxTasks ⌝ }
         ensures { λ r. ⌜ r ≡ windowAnswer self ⌝ }
@@ -376,6 +456,7 @@ impl Table {
             deadlines[k] = task.deadline;
             k += 1;
         }
-        columns_answer(&releases, &deadlines, count)
+        let reply = columns_answer(&releases, &deadlines, count);
+        reply.answer
     }
 }

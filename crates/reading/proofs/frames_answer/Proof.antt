@@ -7,7 +7,8 @@ use borrow.Author.Needs.{needs}
 use lib.ListN.{length, take, drop, length-take, length-drop}
 use lib.Seq.{take-all}
 use Rattle.base.specs.Limits.{maxTasks}
-use Rattle.table.specs.WindowColumns.{columnsAnswer}
+use Rattle.table.specs.Kinds.{windowsAnswer, acceptedNested}
+use Rattle.table.specs.WindowColumns.{windowAt}
 use Rattle.reading.proofs.frames_answer.Statement.{statement}
 use Rattle.reading.proofs.frames_answer.Tie as tie
 
@@ -24,14 +25,16 @@ part-columns-answer-end : tie.Need-part-columns-answer-end
 part-columns-answer-end c = search needs
 
 columns-answer-requires : tie.Need-columns-answer-requires
-columns-answer-requires c κs = (simp length-take (omega arith), simp (length-take, length-drop) (omega arith))
+columns-answer-requires c κs = (search needs, (simp length-take (omega arith), simp (length-take, length-drop) (omega arith)))
 
 returns : tie.Need-returns
 returns c =
     let a = c .before .before .before .before .args in
     let s : List ℕ = a .frames .now in
-    c .columns-answer .ensures
-    ∙ ap (λ (deadlines : List ℕ). columnsAnswer (take maxTasks s) deadlines (a .count)) (take-all (length s - maxTasks) (drop maxTasks s) (simp length-drop (omega arith)))
+    let whole = take-all (length s - maxTasks) (drop maxTasks s) (simp length-drop (omega arith)) in (
+      c .columns-answer .ensures .0 ∙ ap (λ (deadlines : List ℕ). windowsAnswer (windowAt (take maxTasks s) deadlines) (a .count)) whole,
+      c .columns-answer .ensures .1 ∙ ap (λ (deadlines : List ℕ). acceptedNested (windowAt (take maxTasks s) deadlines) (a .count)) whole,
+    )
 
 pub frames-answer-spec : {M : Type 1} → statement M
 frames-answer-spec =

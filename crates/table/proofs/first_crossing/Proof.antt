@@ -3,12 +3,14 @@ use Prim.Native.Nat.{_-_}
 use mathlib.Core.Path.{sym, _∙_}
 use native.Mathlib.Omega.{arith}
 use Rattle.base.proofs.LowestLaws.{Searched, search-start, search-found, search-passed, search-end}
-use Rattle.table.specs.WindowColumns.{columnCrosses}
+use Rattle.table.specs.Windows.{nested}
+use Rattle.table.specs.Kinds.{failsEarlier}
+use Rattle.table.specs.WindowColumns.{windowAt}
 use Rattle.table.proofs.first_crossing.Statement.{statement}
 use Rattle.table.proofs.first_crossing.Tie as tie
 
 abbrev Inv-loop : tie.InvT-loop
-Inv-loop releases deadlines count k₀ k = Searched (columnCrosses releases deadlines) count k
+Inv-loop releases deadlines count k₀ k = Searched (failsEarlier nested (windowAt releases deadlines)) count k
 
 abbrev μ-loop : tie.MeasureT-loop
 μ-loop releases deadlines count k₀ k = count - k
@@ -32,7 +34,7 @@ crosses-earlier-requires : tie.Need-crosses-earlier-requires Inv-loop μ-loop
 crosses-earlier-requires c κs = omega arith
 
 returns : tie.Need-returns Inv-loop μ-loop
-unfolding columnCrosses
+unfolding failsEarlier
 returns c = search-found _ _ _ (c .before .before .before .before .before .loop .inv) (omega arith) (sym (c .before .crosses-earlier .ensures) ∙ c .if1 .taken)
 
 add-k : tie.Need-add-k Inv-loop μ-loop
@@ -42,7 +44,7 @@ loop-less : tie.Need-loop-less Inv-loop μ-loop
 loop-less c = omega arith
 
 loop-again : tie.Need-loop-again Inv-loop μ-loop
-unfolding columnCrosses
+unfolding failsEarlier
 loop-again c = search-passed _ _ _ (c .before .before .before .before .before .loop .inv) (omega arith) (sym (c .before .crosses-earlier .ensures) ∙ c .if1 .left)
 
 returns-2 : tie.Need-returns-2 Inv-loop μ-loop

@@ -1,7 +1,7 @@
 -- `table::forward_answer` meets its contract.
 use borrow.Author.Needs.{needs}
 use Rattle.table.specs.declared.Answer.the-variants.{Window}
-use Rattle.table.specs.WindowColumns.{columnForward}
+use Rattle.table.specs.Kinds.{forwardAnswer}
 use Rattle.table.proofs.AnswerLaws.{found-refuses, not-found}
 use Rattle.table.proofs.forward_answer.Statement.{statement}
 use Rattle.table.proofs.forward_answer.Tie as tie
@@ -10,11 +10,11 @@ first-reversed-requires : tie.Need-first-reversed-requires
 first-reversed-requires c κs = search needs
 
 returns : tie.Need-returns
-unfolding columnForward
+unfolding forwardAnswer
 returns c = found-refuses Window _ _ _ (c .before .first-reversed .ensures) (c .if1 .taken)
 
 returns-2 : tie.Need-returns-2
-unfolding columnForward
+unfolding forwardAnswer
 returns-2 c = not-found Window _ _ _ (c .before .first-reversed .ensures) (c .if1 .left)
 
 pub forward-answer-spec : {M : Type 1} → statement M
