@@ -1,0 +1,11 @@
+pub mod InOrderLaws
+pub mod OrderRowLaws
+pub mod OrderChoiceLaws
+pub mod OrderNecessity
+pub mod OrderSufficiency
+pub mod RunListLaws
+pub mod LateLaws
+pub mod OrderBest
+pub mod KeptRowLaws
+pub mod WalkLaws
+pub mod OrderSampleLaws
