@@ -1,2 +1,0 @@
-pub mod NestOrder
-pub mod Keys
