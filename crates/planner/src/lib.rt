@@ -7,14 +7,14 @@ ghost use Prim.Native.Nat.{ℕ, _≤_, _<_};
 ghost use lib.ListN.{length, getD, drop};
 ghost use Rattle.base.specs.Limits.{maxTasks};
 ghost use Rattle.base.specs.Places.{places, firstPlaces};
+ghost use Rattle.table.specs.Kinds.{isNested};
 ghost use Rattle.table.specs.Reading.{tableIn, reading};
 ghost use Rattle.table.specs.Writing.{Legal};
 ghost use Rattle.schedule.specs.Jobs.{noJob, Bounded};
 ghost use Rattle.base.specs.Members.{Any, Distinct};
-ghost use Rattle.choice.specs.Choice.{fits, keepNone};
 ghost use Rattle.placement.specs.Chains.{positions};
-ghost use Rattle.nesting.specs.NestOrder.{jobsOutermostFirst};
-ghost use Rattle.plans.specs.Planning.{exceedingAfter, tooShort, markAt, planDeclined, planOf};
+ghost use Rattle.orders.specs.KindOrder.{jobsLastFirst};
+ghost use Rattle.plans.specs.Planning.{exceedingAfter, mandatoryFit, tooShort, markAt, planDeclined, planMade, planOf};
 ghost use Rattle.plans.specs.Planning.{lent, shortLists, planTable, planReply, planWritten, listsAfter};
 ghost use Rattle.plans.specs.Demands.{EightExactly, JudgeAccepts, PlannedOptimal};
 ghost use Rattle.plans.specs.Rules.{PlannedByRules, EightFirst};
@@ -37,8 +37,21 @@ fn declined(number: u32, place: usize) -> Planned
     }
 }
 
+// The reply of a plan.
+fn planned(kept: u32, discarded: u32, runs: usize) -> Planned
+    ensures { λ r. ⌜ r ≡ planMade kept discarded runs ⌝ }
+{
+    Planned {
+        number: 0,
+        place: 0,
+        kept,
+        discarded,
+        runs,
+    }
+}
+
 // The position of the first job in nest order whose mandatory ticks, with those of all before it, exceed its window, and the count where there
-// is none. The jobs stand outermost first at the first `count` places.
+// is none. The jobs of a nested table stand outermost first at the first `count` places.
 fn first_exceeding(jobs: [Job; MAX_TASKS], count: usize) -> usize
     requires { ⌜ count ≤ maxTasks ⌝ }
     requires { ⌜ ((k : ℕ) → k < count → Bounded (getD jobs k noJob)) ⌝ }
@@ -94,8 +107,8 @@ fn put_marks(jobs: [Job; MAX_TASKS], keeps: [bool; MAX_TASKS], count: usize, mar
     }
 }
 
-// The plan of a table whose mandatory parts fit, into lists that are long enough. Its jobs stand outermost first.
-fn put_plan(
+// The plan of a nested table whose mandatory parts fit, into lists that are long enough. Its jobs stand outermost first.
+fn put_nested(
     table: Table,
     jobs: [Job; MAX_TASKS],
     marks: &mut [u8],
@@ -104,8 +117,9 @@ fn put_plan(
     tasks: &mut [u32],
 ) -> Planned
     requires { ⌜ Legal table ⌝ }
-    requires { ⌜ firstPlaces noJob jobs (table .count) ≡ jobsOutermostFirst table ⌝ }
-    requires { ⌜ fits (jobsOutermostFirst table) (keepNone (jobsOutermostFirst table)) ≡ true ⌝ }
+    requires { ⌜ isNested table ≡ true ⌝ }
+    requires { ⌜ firstPlaces noJob jobs (table .count) ≡ jobsLastFirst table ⌝ }
+    requires { ⌜ mandatoryFit table ≡ true ⌝ }
     requires { ⌜ shortLists (table .count) (lent (now marks) (now starts) (now ends) (now tasks)) ≡ false ⌝ }
     ensures { λ r. ⌜ r ≡ planOf table ⌝ }
     ensures { λ r. ⌜ lent (now (marks .exit)) (now (starts .exit)) (now (ends .exit)) (now (tasks .exit))
@@ -116,38 +130,112 @@ fn put_plan(
     let keeps = choice.keeps;
     put_marks(jobs, keeps, count, marks);
     let runs = placing::place(jobs, count, keeps, starts, ends, tasks);
-    Planned {
-        number: 0,
-        place: 0,
-        kept: choice.kept,
-        discarded: choice.discarded,
-        runs,
-    }
+    planned(choice.kept, choice.discarded, runs)
 }
 
-// Planning the table of an accepted file: 8, then 9, then the plan.
-fn plan_table(
+// Planning a nested table: 8, then 9, then the plan. Its jobs stand outermost first.
+fn plan_nested(
     table: Table,
+    jobs: [Job; MAX_TASKS],
     marks: &mut [u8],
     starts: &mut [u32],
     ends: &mut [u32],
     tasks: &mut [u32],
 ) -> Planned
     requires { ⌜ Legal table ⌝ }
+    requires { ⌜ isNested table ≡ true ⌝ }
+    requires { ⌜ firstPlaces noJob jobs (table .count) ≡ jobsLastFirst table ⌝ }
     ensures { λ r. ⌜ r ≡ planTable table (lent (now (marks .entry)) (now (starts .entry)) (now (ends .entry)) (now (tasks .entry))) ⌝ }
     ensures { λ r. ⌜ lent (now (marks .exit)) (now (starts .exit)) (now (ends .exit)) (now (tasks .exit))
         ≡ listsAfter table r (lent (now (marks .entry)) (now (starts .entry)) (now (ends .entry)) (now (tasks .entry))) ⌝ }
 {
     let count = table.count as usize;
-    let jobs = ordering::jobs_outermost_first(table);
-    let exceeding = first_exceeding(jobs, count);
-    if exceeding < count {
-        return declined(8, exceeding);
+    let unmet = first_exceeding(jobs, count);
+    if unmet < count {
+        return declined(8, unmet);
     }
     if too_short(count, marks.len(), starts.len(), ends.len(), tasks.len()) {
         return declined(9, 0);
     }
-    put_plan(table, jobs, marks, starts, ends, tasks)
+    put_nested(table, jobs, marks, starts, ends, tasks)
+}
+
+// The plan of a similar table whose mandatory parts fit, into lists that are long enough. Its jobs stand last first.
+fn put_similar(
+    table: Table,
+    jobs: [Job; MAX_TASKS],
+    marks: &mut [u8],
+    starts: &mut [u32],
+    ends: &mut [u32],
+    tasks: &mut [u32],
+) -> Planned
+    requires { ⌜ Legal table ⌝ }
+    requires { ⌜ isNested table ≡ false ⌝ }
+    requires { ⌜ firstPlaces noJob jobs (table .count) ≡ jobsLastFirst table ⌝ }
+    requires { ⌜ mandatoryFit table ≡ true ⌝ }
+    requires { ⌜ shortLists (table .count) (lent (now marks) (now starts) (now ends) (now tasks)) ≡ false ⌝ }
+    ensures { λ r. ⌜ r ≡ planOf table ⌝ }
+    ensures { λ r. ⌜ lent (now (marks .exit)) (now (starts .exit)) (now (ends .exit)) (now (tasks .exit))
+        ≡ planWritten table (lent (now (marks .entry)) (now (starts .entry)) (now (ends .entry)) (now (tasks .entry))) ⌝ }
+{
+    let count = table.count as usize;
+    let choice = sequencing::choose(jobs, count);
+    let keeps = choice.keeps;
+    put_marks(jobs, keeps, count, marks);
+    let runs = sequencing::place(jobs, count, keeps, starts, ends, tasks);
+    planned(choice.kept, choice.discarded, runs)
+}
+
+// Planning a similar table: 8, then 9, then the plan. Its jobs stand last first.
+fn plan_similar(
+    table: Table,
+    jobs: [Job; MAX_TASKS],
+    marks: &mut [u8],
+    starts: &mut [u32],
+    ends: &mut [u32],
+    tasks: &mut [u32],
+) -> Planned
+    requires { ⌜ Legal table ⌝ }
+    requires { ⌜ isNested table ≡ false ⌝ }
+    requires { ⌜ firstPlaces noJob jobs (table .count) ≡ jobsLastFirst table ⌝ }
+    ensures { λ r. ⌜ r ≡ planTable table (lent (now (marks .entry)) (now (starts .entry)) (now (ends .entry)) (now (tasks .entry))) ⌝ }
+    ensures { λ r. ⌜ lent (now (marks .exit)) (now (starts .exit)) (now (ends .exit)) (now (tasks .exit))
+        ≡ listsAfter table r (lent (now (marks .entry)) (now (starts .entry)) (now (ends .entry)) (now (tasks .entry))) ⌝ }
+{
+    let count = table.count as usize;
+    let late = sequencing::first_late(jobs, count);
+    if late < count {
+        return declined(8, late);
+    }
+    if too_short(count, marks.len(), starts.len(), ends.len(), tasks.len()) {
+        return declined(9, 0);
+    }
+    put_similar(table, jobs, marks, starts, ends, tasks)
+}
+
+// Planning the table of an accepted file, by its kind.
+fn plan_table(
+    table: Table,
+    nested: bool,
+    marks: &mut [u8],
+    starts: &mut [u32],
+    ends: &mut [u32],
+    tasks: &mut [u32],
+) -> Planned
+    requires { ⌜ Legal table ⌝ }
+    requires { ⌜ nested ≡ isNested table ⌝ }
+    ensures { λ r. ⌜ r ≡ planTable table (lent (now (marks .entry)) (now (starts .entry)) (now (ends .entry)) (now (tasks .entry))) ⌝ }
+    ensures { λ r. ⌜ lent (now (marks .exit)) (now (starts .exit)) (now (ends .exit)) (now (tasks .exit))
+        ≡ listsAfter table r (lent (now (marks .entry)) (now (starts .entry)) (now (ends .entry)) (now (tasks .entry))) ⌝ }
+{
+    if nested {
+        let keys = ordering::keys_by(table, true);
+        let jobs = ordering::jobs_last_first(table, keys);
+        return plan_nested(table, jobs, marks, starts, ends, tasks);
+    }
+    let keys = ordering::keys_by(table, false);
+    let jobs = ordering::jobs_last_first(table, keys);
+    plan_similar(table, jobs, marks, starts, ends, tasks)
 }
 
 // A reply of planning with the task count of the table that was read, which is 0 where reading refuses.
@@ -178,11 +266,11 @@ pub fn plan_counted(
         let reply = declined(answer.number(), answer.place());
         return Counted { count, reply };
     };
-    let reply = plan_table(table, marks, starts, ends, tasks);
+    let reply = plan_table(table, read.nested, marks, starts, ends, tasks);
     Counted { count, reply }
 }
 
-// Planning: any bytes get the reply of document 01. Where nothing is refused, the marks by position and the runs by start stand in the lent lists;
+// Planning: any bytes get the reply of documents 01 and 02. Where nothing is refused, the marks by position and the runs by start stand in the lent lists;
 // a refusal changes none of them.
 pub fn plan(
     file: &[u8],

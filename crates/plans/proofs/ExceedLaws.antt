@@ -2,7 +2,7 @@
 use Prim.Native.Nat.{ℕ, zero, suc, _+_, _-_, _≤_, _<_}
 use mathlib.Core.Path.{_≡_, refl}
 use mathlib.Core.Bool.{Bool, true, false, not}
-use mathlib.Core.List.{List, [], _∷_, _++_, map, reverse, reverse-cons}
+use mathlib.Core.List.{List, [], _∷_, _++_, reverse, reverse-cons}
 use native.Mathlib.Omega.{arith}
 use native.Mathlib.Decide.{decLe}
 use lib.Dec.{leb, ltb}
@@ -11,18 +11,13 @@ use Rattle.base.specs.Tests.{pick, and}
 use Rattle.base.specs.Places.{placesFrom, places}
 use Rattle.base.proofs.TestLaws.{cases}
 use Rattle.base.proofs.PlaceLaws.{reverse-places}
-use Rattle.table.specs.declared.Table.{Table}
 use Rattle.schedule.specs.declared.Job.{Job}
-use Rattle.schedule.specs.Jobs.{jobAt, windowTicks, workWith}
+use Rattle.schedule.specs.Jobs.{windowTicks, workWith}
 use Rattle.base.specs.Members.{All}
 use Rattle.base.proofs.MemberLaws.{all-reverse}
-use Rattle.base.proofs.ListLaws.{map-reverse}
-use Rattle.schedule.proofs.JudgeLaws.{job-position}
 use Rattle.choice.specs.Choice.{total, worksFit, worksOf, totalWork, fits, keepNone}
 use Rattle.choice.specs.Programme.{mandatorySum}
-use Rattle.nesting.specs.NestOrder.{outermostFirst, nestOrder, jobsOutermostFirst}
-use Rattle.nesting.proofs.OrderLaws.{all-outermost}
-use Rattle.plans.specs.Planning.{exceedingAfter, firstExceeding}
+use Rattle.plans.specs.Planning.{exceedingAfter}
 
 -- the search goes on in a second list where it finds nothing in the first
 pub exceeding-append : (n sum : ℕ) (xs ys : List Job) → All (λ job. job .position < n) xs
@@ -112,15 +107,3 @@ exceeding-test n (job ∷ jobs) h =
     )
     (one-more n (exceedingAfter n 0 (reverse jobs)) (job .position) (ltb (windowTicks job) (mandatorySum jobs + job .mandatory)) (fits jobs (keepNone jobs))
     (h .0) (exceeding-test n jobs (h .1)))
-
--- the jobs in nest order are those outermost first, turned round
-pub nest-jobs : (t : Table) → map (jobAt t) (nestOrder t) ≡ reverse (jobsOutermostFirst t)
-unfolding nestOrder jobsOutermostFirst
-nest-jobs t = map-reverse (jobAt t) (outermostFirst t (t .count))
-
--- some task of a table exceeds its window exactly where the mandatory parts alone do not fit
-pub exceeding-table : (t : Table) → ltb (firstExceeding t) (t .count) ≡ not (fits (jobsOutermostFirst t) (keepNone (jobsOutermostFirst t)))
-unfolding firstExceeding
-exceeding-table t =
-    rw (nest-jobs t)
-    (exceeding-test (t .count) (jobsOutermostFirst t) (all-outermost t (λ job. job .position < t .count) (λ k l. rw (job-position t k) l)))

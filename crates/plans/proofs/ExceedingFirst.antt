@@ -17,13 +17,13 @@ use Rattle.schedule.specs.Jobs.{jobAt, windowTicks}
 use Rattle.schedule.proofs.JudgeLaws.{job-position}
 use Rattle.choice.specs.Choice.{worksOf, fits, keepNone}
 use Rattle.choice.specs.Programme.{mandatorySum}
-use Rattle.nesting.specs.NestOrder.{nestBefore, outermostFirst, jobsOutermostFirst}
-use Rattle.nesting.proofs.NestLaws.{order-below}
-use Rattle.nesting.proofs.OrderLaws.{sumOver}
-use Rattle.nesting.proofs.BeforeLaws.{before-once, before-total, Sorted, order-falls, order-all}
-use Rattle.plans.specs.Planning.{exceedingAfter, firstExceeding}
+use Rattle.orders.specs.KindOrder.{kindBefore, orderLastFirst, jobsLastFirst}
+use Rattle.orders.proofs.SortLaws.{order-below, sumOver, Sorted}
+use Rattle.orders.proofs.BeforeLaws.{kind-once, kind-total, kind-falls, order-all}
+use Rattle.plans.specs.Planning.{exceedingAfter}
 use Rattle.plans.specs.Rules.{Within, FirstExceeding}
-use Rattle.plans.proofs.ExceedLaws.{exceeding-append, sum-reverse, exceeding-test, nest-jobs, exceeding-table}
+use Rattle.plans.proofs.ExceedLaws.{exceeding-append, sum-reverse, exceeding-test}
+use Rattle.plans.proofs.PlanLaws.{jobs-below}
 use Rattle.plans.proofs.UpToLaws.{listUpTo, up-first, up-rest, list-within, up-order, works-within}
 
 module _ (t : Table) where
@@ -50,28 +50,28 @@ module _ (t : Table) where
   mandatory-sum (j ∷ js) = ap (λ (x : ℕ). jobAt t j .mandatory + x) (mandatory-sum js)
 
   -- the jobs of positions below n have positions below n
-  jobs-below : (n : ℕ) (js : List ℕ) → All (λ j. j < n) js → All (λ job. job .position < n) (map (jobAt t) js)
-  jobs-below n [] b = tt
-  jobs-below n (j ∷ js) b = (rw (job-position t j) (b .0), jobs-below n js (b .1))
+  positions-below : (n : ℕ) (js : List ℕ) → All (λ j. j < n) js → All (λ job. job .position < n) (map (jobAt t) js)
+  positions-below n [] b = tt
+  positions-below n (j ∷ js) b = (rw (job-position t j) (b .0), positions-below n js (b .1))
 
-  -- the search over positions that stand outermost first
+  -- the search over positions that stand last first
   abbrev found : ℕ → List ℕ → ℕ
   found n js = exceedingAfter n 0 (reverse (map (jobAt t) js))
 
   -- where it finds nothing, no task exceeds its window
-  none-found : (n : ℕ) (js : List ℕ) → All (λ j. j < n) js → Sorted t js → ltb (found n js) n ≡ false → All (ListWithin js) js
+  none-found : (n : ℕ) (js : List ℕ) → All (λ j. j < n) js → Sorted (kindBefore t) js → ltb (found n js) n ≡ false → All (ListWithin js) js
   none-found n js b s e =
       list-within t mandatoryAt js s .0
       (rw (none-works js) at
-      (not-false (fits (map (jobAt t) js) (keepNone (map (jobAt t) js))) (sym (exceeding-test n (map (jobAt t) js) (jobs-below n js b)) ∙ e)))
+      (not-false (fits (map (jobAt t) js) (keepNone (map (jobAt t) js))) (sym (exceeding-test n (map (jobAt t) js) (positions-below n js b)) ∙ e)))
 
   -- the first task among some positions that exceeds its window
   record FirstIn (js : List ℕ) (place : ℕ) : Type 0 where
     member : Any (λ j. j ≡ place) js
     exceeds : windowTicks (jobAt t place) < listUpTo t mandatoryAt js place
-    first : All (λ k. nestBefore t k place ≡ true → ListWithin js k) js
+    first : All (λ k. kindBefore t k place ≡ true → ListWithin js k) js
 
-  -- the search with one more task, the outermost: what it finds among the others, or that task
+  -- the search with one more task, the last: what it finds among the others, or that task
   found-more : (n k : ℕ) (js : List ℕ) → All (λ j. j < n) js
       → found n (k ∷ js)
       ≡ pick (ltb (found n js) n) (found n js) (pick (ltb (windowTicks (jobAt t k)) (sumOver mandatoryAt js + jobAt t k .mandatory)) k n)
@@ -79,28 +79,28 @@ module _ (t : Table) where
   found-more n k js b =
       let sum : 0 + mandatorySum (reverse (map (jobAt t) js)) ≡ sumOver mandatoryAt js = omega (arith, sum-reverse (map (jobAt t) js), mandatory-sum js) in
       rw (reverse-cons (jobAt t k) (map (jobAt t) js))
-      (exceeding-append n 0 (reverse (map (jobAt t) js)) (jobAt t k ∷ []) (all-reverse (λ job. job .position < n) (map (jobAt t) js) (jobs-below n js b))
+      (exceeding-append n 0 (reverse (map (jobAt t) js)) (jobAt t k ∷ []) (all-reverse (λ job. job .position < n) (map (jobAt t) js) (positions-below n js b))
       ∙ rw (sum, job-position t k))
 
   -- what it finds is the first task that exceeds its window
-  first-in : (n : ℕ) (js : List ℕ) → All (λ j. j < n) js → Sorted t js → (place : ℕ) → found n js ≡ place → place < n → FirstIn js place
+  first-in : (n : ℕ) (js : List ℕ) → All (λ j. j < n) js → Sorted (kindBefore t) js → (place : ℕ) → found n js ≡ place → place < n → FirstIn js place
   unfolding exceedingAfter
   first-in n [] b s place e l = absurd (omega arith)
   first-in n (k ∷ js) b s place e l =
       let more = found-more n k js (b .1) in
-      let inner = all-members (λ i. nestBefore t i k ≡ true) js .0 (s .0) in
-      let long = all-members (λ i. nestBefore t i place ≡ true → ListWithin (k ∷ js) i) js in
+      let inner = all-members (λ i. kindBefore t i k ≡ true) js .0 (s .0) in
+      let long = all-members (λ i. kindBefore t i place ≡ true → ListWithin (k ∷ js) i) js in
       cases (ltb (found n js) n)
       (λ f.
       let same : found n js ≡ place = sym (rw f at more) ∙ e in
       let r : FirstIn js place = first-in n js (b .1) (s .1) place same l in
-      let short = all-members (λ i. nestBefore t i place ≡ true → ListWithin js i) js .0 (r .first) in
-      let before : nestBefore t place k ≡ true = inner place (r .member) in
+      let short = all-members (λ i. kindBefore t i place ≡ true → ListWithin js i) js .0 (r .first) in
+      let before : kindBefore t place k ≡ true = inner place (r .member) in
       record {
         member = inr (r .member);
         exceeds = rw (up-rest t mandatoryAt k place js before) (r .exceeds);
         first = (
-          λ h. both-absurd (nestBefore t k place) h (before-once t place k before),
+          λ h. both-absurd (kindBefore t k place) h (kind-once t place k before),
           long .1 (λ i m h. rw (up-rest t mandatoryAt k i js (inner i m)) (short i m h)),
         );
       })
@@ -115,36 +115,39 @@ module _ (t : Table) where
         member = inl is;
         exceeds = rw (← is) (omega arith);
         first = (
-          λ h. let self : nestBefore t k k ≡ true = rw (← is) at h in both-absurd (nestBefore t k k) self (before-once t k k self),
+          λ h. let self : kindBefore t k k ≡ true = rw (← is) at h in both-absurd (kindBefore t k k) self (kind-once t k k self),
           long .1 (λ i m h. rw (up-rest t mandatoryAt k i js (inner i m)) (others i m)),
         );
       })
       (λ g. let is : n ≡ place = sym (rw (f, g) at more) ∙ e in absurd (omega arith)))
 
+  -- what the search finds in the order of a table
+  unfoldable pub firstExceeding : ℕ
+  firstExceeding = exceedingAfter (t .count) 0 (reverse (jobsLastFirst t))
+
   -- The search finds nothing exactly where the mandatory ticks up to each task come to no more than the ticks of its window.
-  pub exceeding-never : (t .count ≤ firstExceeding t) ↔ ((k : ℕ) → k < t .count → Within t (λ j. jobAt t j .mandatory) k)
-  unfolding jobsOutermostFirst
+  pub exceeding-never : (t .count ≤ firstExceeding) ↔ ((k : ℕ) → k < t .count → Within t (λ j. jobAt t j .mandatory) k)
+  unfolding firstExceeding jobsLastFirst
   exceeding-never =
-      let order = outermostFirst t (t .count) in
-      let test = exceeding-table t in
+      let order = orderLastFirst t in
+      let test = exceeding-test (t .count) (jobsLastFirst t) (jobs-below t) in
       let law = works-within t mandatoryAt in (
         λ l.
-            let fit = not-false (fits (jobsOutermostFirst t) (keepNone (jobsOutermostFirst t))) (sym test ∙ le-ltb (firstExceeding t) (t .count) l) in
+            let fit = not-false (fits (jobsLastFirst t) (keepNone (jobsLastFirst t))) (sym test ∙ le-ltb firstExceeding (t .count) l) in
             law .0 (rw (none-works order) at fit),
-        λ h. ltb-false (firstExceeding t) (t .count) (test ∙ ap not (rw (← none-works order) at (law .1 h))),
+        λ h. ltb-false firstExceeding (t .count) (test ∙ ap not (rw (← none-works order) at (law .1 h))),
       )
 
   -- What it finds is the first task that exceeds its window,
-  exceeding-found : firstExceeding t < t .count → FirstExceeding t (firstExceeding t)
-  unfolding firstExceeding jobsOutermostFirst
+  exceeding-found : firstExceeding < t .count → FirstExceeding t firstExceeding
+  unfolding firstExceeding jobsLastFirst orderLastFirst
   exceeding-found l =
-      let order = outermostFirst t (t .count) in
-      let same : found (t .count) order ≡ firstExceeding t = ap (exceedingAfter (t .count) 0) (sym (nest-jobs t)) in
-      let r = first-in (t .count) order (order-below t (t .count)) (order-falls t (t .count)) (firstExceeding t) same l in
+      let order = orderLastFirst t in
+      let r = first-in (t .count) order (order-below (kindBefore t) (t .count)) (kind-falls t) firstExceeding refl l in
       record {
         known = l;
-        exceeds = rw (← up-order t mandatoryAt (firstExceeding t)) (r .exceeds);
-        first = λ k m h. rw (← up-order t mandatoryAt k) (order-all t (λ i. nestBefore t i (firstExceeding t) ≡ true → ListWithin order i) (r .first) k m h);
+        exceeds = rw (← up-order t mandatoryAt firstExceeding) (r .exceeds);
+        first = λ k m h. rw (← up-order t mandatoryAt k) (order-all t (λ i. kindBefore t i firstExceeding ≡ true → ListWithin order i) (r .first) k m h);
       }
 
   -- and there is one at most.
@@ -154,17 +157,17 @@ module _ (t : Table) where
         | yes e ↦ e
         | no n ↦
             absurd
-            (cases (nestBefore t a b)
+            (cases (kindBefore t a b)
             (λ e. omega (arith, q .first a (p .known) e))
-            (λ e. omega (arith, p .first b (q .known) (before-total t a b n e))))
+            (λ e. omega (arith, p .first b (q .known) (kind-total t a b n e))))
       ]
 
   -- The search finds a place exactly where it is that of the first task that exceeds its window.
-  pub exceeding-first : (place : ℕ) → ((firstExceeding t ≡ place) × (place < t .count)) ↔ FirstExceeding t place
+  pub exceeding-first : (place : ℕ) → ((firstExceeding ≡ place) × (place < t .count)) ↔ FirstExceeding t place
   exceeding-first place = (
     λ h. rw (h .0) at (exceeding-found (rw (h .0) (h .1))),
     λ f.
-        cases (ltb (firstExceeding t) (t .count))
-        (λ e. (exceeding-one (firstExceeding t) place (exceeding-found (ltb-true (firstExceeding t) (t .count) e)) f, f .known))
-        (λ e. absurd (omega (arith, f .exceeds, exceeding-never .0 (ltb-false (firstExceeding t) (t .count) e) place (f .known)))),
+        cases (ltb firstExceeding (t .count))
+        (λ e. (exceeding-one firstExceeding place (exceeding-found (ltb-true firstExceeding (t .count) e)) f, f .known))
+        (λ e. absurd (omega (arith, f .exceeds, exceeding-never .0 (ltb-false firstExceeding (t .count) e) place (f .known)))),
   )

@@ -1,6 +1,6 @@
--- Marks by position and keep lists outermost first: each is the other's in one way, and they fit, discard and keep the same.
+-- Marks by position and keep lists last first: each is the other's in one way, and they fit, discard and keep the same.
 use Prim.Native.Nat.{ℕ, _+_, _≤_, _<_}
-use mathlib.Core.Path.{_≡_, refl, sym, ap, ap₂, _∙_, subst⁻¹}
+use mathlib.Core.Path.{_≡_, refl, sym, ap, ap₂, _∙_}
 use mathlib.Core.Logic.{_↔_}
 use mathlib.Core.Bool.{Bool, true, false, not}
 use mathlib.Core.List.{List, [], _∷_, map}
@@ -11,27 +11,29 @@ use lib.ListN.{length, getD, length-map}
 use lib.Seq.{ext-getD}
 use borrow.Author.Tests.{eqb-true, eqb-false}
 use Rattle.base.specs.Tests.{pick, and}
-use Rattle.base.specs.Members.{All, Distinct}
+use Rattle.base.specs.Members.{All}
 use Rattle.base.specs.Places.{places}
 use Rattle.base.proofs.TestLaws.{cases}
 use Rattle.base.proofs.PlaceLaws.{places-length, places-at}
 use Rattle.table.specs.declared.Table.{Table}
+use Rattle.table.specs.Kinds.{isNested}
 use Rattle.schedule.specs.Jobs.{jobAt, workOf, counts}
 use Rattle.schedule.specs.Ticks.{one}
 use Rattle.schedule.specs.Judging.{discardedCount}
 use Rattle.schedule.proofs.JudgeLaws.{job-position}
-use Rattle.choice.specs.Choice.{worksOf, fits, keptTicks, discardedWorth, discarded}
+use Rattle.choice.specs.Choice.{worksOf, keptTicks, discardedWorth, discarded}
 use Rattle.choice.proofs.FitLaws.{discarded-cons}
-use Rattle.placement.specs.Chains.{positions}
 use Rattle.placement.proofs.PlanLaws.{SameMarks}
-use Rattle.nesting.specs.NestOrder.{outermostFirst, jobsOutermostFirst}
-use Rattle.nesting.proofs.NestLaws.{order-distinct, order-length}
-use Rattle.nesting.proofs.OrderLaws.{all-outermost, outermost-positions, outermost-length, sumOver, sum-order, count-order}
-use Rattle.nesting.proofs.BeforeLaws.{all-order, order-all}
-use Rattle.plans.specs.Planning.{markAt}
-use Rattle.plans.specs.Rules.{KeepList, Fitting, keptTicksOf}
+use Rattle.orders.specs.KindOrder.{kindBefore, orderLastFirst, jobsLastFirst}
+use Rattle.orders.proofs.SortLaws.{order-length, sumOver, sum-order, count-order}
+use Rattle.orders.proofs.OrderLaws.{jobs-length, jobs-distinct}
+use Rattle.orders.proofs.BeforeLaws.{all-order, order-all}
+use Rattle.plans.specs.Planning.{fitsBy, markAt}
+use Rattle.plans.specs.Rules.{KeepList, WorksFitBy, Fitting, keptTicksOf}
 use Rattle.plans.proofs.MarkLaws.{mark-low, marks-same}
+use Rattle.plans.proofs.PlanLaws.{jobs-below}
 use Rattle.plans.proofs.UpToLaws.{works-within}
+use Rattle.plans.proofs.InTimeLaws.{fits-in-time}
 
 -- the task at a position is kept
 abbrev pub keepAt : List ℕ → ℕ → Bool
@@ -39,11 +41,11 @@ keepAt marks k = eqb (getD marks k 0) 1
 
 -- the keep list of marks by position
 abbrev pub keepsOf : Table → List ℕ → List Bool
-keepsOf t marks = map (keepAt marks) (outermostFirst t (t .count))
+keepsOf t marks = map (keepAt marks) (orderLastFirst t)
 
 -- the marks by position of a keep list
 abbrev pub marksOf : Table → List Bool → List ℕ
-marksOf t keeps = places (markAt (jobsOutermostFirst t) keeps) (t .count)
+marksOf t keeps = places (markAt (jobsLastFirst t) keeps) (t .count)
 
 -- a mark of 0 or 1 is not 1 exactly where it is 0
 low-mark : (mark : ℕ) → mark ≤ 1 → not (eqb mark 1) ≡ eqb mark 0
@@ -66,14 +68,10 @@ map-all f g [] e = tt
 map-all f g (j ∷ js) e = ((cc), map-all f g js (cc))
 
 module _ (t : Table) where
-  -- a position has one mark at most
-  jobs-distinct : Distinct (positions (jobsOutermostFirst t))
-  jobs-distinct = subst⁻¹ Distinct (outermost-positions t) (order-distinct t (t .count))
-
   -- Marks by position are settled by their keep list.
   pub marks-one : (a b : List ℕ) → KeepList t a → KeepList t b → keepsOf t a ≡ keepsOf t b → a ≡ b
   marks-one a b p q e =
-      let same = order-all t (λ k. keepAt a k ≡ keepAt b k) (map-all (keepAt a) (keepAt b) (outermostFirst t (t .count)) e) in
+      let same = order-all t (λ k. keepAt a k ≡ keepAt b k) (map-all (keepAt a) (keepAt b) (orderLastFirst t) e) in
       ext-getD 0 a b (p .size ∙ sym (q .size))
       (λ k l. let m : k < t .count = omega (arith, p .size) in same-mark (getD a k 0) (getD b k 0) (p .low k m) (q .low k m) (same k m))
 
@@ -81,8 +79,8 @@ module _ (t : Table) where
   pub marks-list : (keeps : List Bool) → KeepList t (marksOf t keeps)
   marks-list keeps =
       record {
-        size = places-length (markAt (jobsOutermostFirst t) keeps) (t .count);
-        low = λ k l. rw (places-at (markAt (jobsOutermostFirst t) keeps) (t .count) k 0 l) (omega (arith, mark-low (jobsOutermostFirst t) keeps k));
+        size = places-length (markAt (jobsLastFirst t) keeps) (t .count);
+        low = λ k l. rw (places-at (markAt (jobsLastFirst t) keeps) (t .count) k 0 l) (omega (arith, mark-low (jobsLastFirst t) keeps k));
       }
 
   -- marks that say what a keep list says have it for their keep list
@@ -100,15 +98,15 @@ module _ (t : Table) where
 
   -- and their keep list is that list.
   pub keeps-back : (keeps : List Bool) → length keeps ≡ t .count → keepsOf t (marksOf t keeps) ≡ keeps
-  unfolding jobsOutermostFirst
+  unfolding jobsLastFirst
   keeps-back keeps l =
-      kept-same (marksOf t keeps) (outermostFirst t (t .count)) keeps
-      (marks-same (jobsOutermostFirst t) keeps (t .count) (l ∙ sym (outermost-length t)) jobs-distinct
-      (all-outermost t (λ job. job .position < t .count) (λ k m. rw (job-position t k) m)))
+      kept-same (marksOf t keeps) (orderLastFirst t) keeps
+      (marks-same (jobsLastFirst t) keeps (t .count) (l ∙ sym (jobs-length t)) (jobs-distinct t) (jobs-below t))
 
   -- there is one mark a task
   keeps-length : (marks : List ℕ) → length (keepsOf t marks) ≡ t .count
-  keeps-length marks = length-map (outermostFirst t (t .count)) (keepAt marks) ∙ order-length t (t .count)
+  unfolding orderLastFirst
+  keeps-length marks = length-map (orderLastFirst t) (keepAt marks) ∙ order-length (kindBefore t) (t .count)
 
   -- Every list of one mark of 0 or 1 a task is that of a keep list.
   pub marks-back : (marks : List ℕ) → KeepList t marks → marksOf t (keepsOf t marks) ≡ marks
@@ -137,28 +135,35 @@ module _ (t : Table) where
 
     module _ (p : KeepList t marks) where
       -- The keep list fits exactly where the marks do,
-      pub keeps-fitting : (fits (jobsOutermostFirst t) (keepsOf t marks) ≡ true) ↔ Fitting t marks
-      unfolding jobsOutermostFirst
-      keeps-fitting =
-          let works = works-by (outermostFirst t (t .count)) in
+      fitting-as : (nested : Bool)
+          → (fitsBy nested (jobsLastFirst t) (keepsOf t marks) ≡ true) ↔ WorksFitBy nested t (λ j. workOf (jobAt t j) (getD marks j 0))
+      unfolding fitsBy jobsLastFirst
+      fitting-as true =
+          let works = works-by (orderLastFirst t) in
           let law = works-within t (λ j. workOf (jobAt t j) (getD marks j 0)) in
-          (λ e. record { list = p; within = law .0 (rw works at e) }, λ f. rw works (law .1 (f .within)))
+          (λ e. law .0 (rw works at e), λ f. rw works (law .1 f))
+      fitting-as false = fits-in-time t (keepAt marks)
+
+      pub keeps-fitting : (fitsBy (isNested t) (jobsLastFirst t) (keepsOf t marks) ≡ true) ↔ Fitting t marks
+      keeps-fitting =
+          let law = fitting-as (isNested t) in
+          (λ e. record { list = p; works = law .0 e }, λ f. law .1 (f .works))
 
       -- keeps as many ticks,
-      pub keeps-ticks : keptTicks (jobsOutermostFirst t) (keepsOf t marks) ≡ keptTicksOf t marks
-      unfolding jobsOutermostFirst keptTicksOf
-      keeps-ticks = ticks-by (outermostFirst t (t .count)) ∙ sum-order t (λ k. pick (keepAt marks k) (jobAt t k .optional) 0) (t .count)
+      pub keeps-ticks : keptTicks (jobsLastFirst t) (keepsOf t marks) ≡ keptTicksOf t marks
+      unfolding jobsLastFirst keptTicksOf orderLastFirst
+      keeps-ticks = ticks-by (orderLastFirst t) ∙ sum-order (kindBefore t) (λ k. pick (keepAt marks k) (jobAt t k .optional) 0) (t .count)
 
       -- and discards as many optional parts.
-      pub keeps-discarded : discarded (jobsOutermostFirst t) (keepsOf t marks) ≡ discardedCount t marks
-      unfolding jobsOutermostFirst discardedCount
+      pub keeps-discarded : discarded (jobsLastFirst t) (keepsOf t marks) ≡ discardedCount t marks
+      unfolding jobsLastFirst discardedCount orderLastFirst
       keeps-discarded =
-          discarded-by (outermostFirst t (t .count)) (all-order t (λ k. getD marks k 0 ≤ 1) (p .low))
-          ∙ count-order t (λ k. and (counts (jobAt t k)) (eqb (getD marks k 0) 0)) (t .count)
+          discarded-by (orderLastFirst t) (all-order t (λ k. getD marks k 0 ≤ 1) (p .low))
+          ∙ count-order (kindBefore t) (λ k. and (counts (jobAt t k)) (eqb (getD marks k 0) 0)) (t .count)
 
   -- A keep list fits exactly where its marks by position do.
   pub fitting-exactly : (keeps : List Bool) → length keeps ≡ t .count
-      → (fits (jobsOutermostFirst t) keeps ≡ true) ↔ Fitting t (places (markAt (jobsOutermostFirst t) keeps) (t .count))
+      → (fitsBy (isNested t) (jobsLastFirst t) keeps ≡ true) ↔ Fitting t (places (markAt (jobsLastFirst t) keeps) (t .count))
   fitting-exactly keeps l =
       let law = keeps-fitting (marksOf t keeps) (marks-list keeps) in
       let back = keeps-back keeps l in
@@ -166,5 +171,5 @@ module _ (t : Table) where
 
   -- The marks by position of keep lists are all lists of one mark of 0 or 1 a task.
   pub marks-all : (marks : List ℕ) → KeepList t marks
-      → (keeps : List Bool) × (length keeps ≡ t .count) × (marks ≡ places (markAt (jobsOutermostFirst t) keeps) (t .count))
+      → (keeps : List Bool) × (length keeps ≡ t .count) × (marks ≡ places (markAt (jobsLastFirst t) keeps) (t .count))
   marks-all marks p = (keepsOf t marks, keeps-length marks, sym (marks-back marks p))

@@ -1,10 +1,15 @@
+pub mod TableJobs
 pub mod ExceedLaws
+pub mod JobPlans
 pub mod MarkLaws
 pub mod PlanLaws
 pub mod UpToLaws
-pub mod ExceedingFirst
+pub mod InTimeLaws
 pub mod FittingLaws
 pub mod RuleLaws
+pub mod ExceedingFirst
+pub mod UnmetFirst
+pub mod EarlyTicks
 pub mod PlacingRules
 pub mod ReplyLaws
 pub mod ArrayLaws

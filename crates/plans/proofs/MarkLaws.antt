@@ -20,7 +20,7 @@ use Rattle.placement.specs.ByPosition.{numberAt}
 use Rattle.placement.proofs.PlanLaws.{SameNumbers, SameMarks}
 use Rattle.base.proofs.ListLaws.{map-places}
 use Rattle.placement.proofs.PositionLaws.{numbers-same, Put, put-end}
-use Rattle.nesting.proofs.OrderLaws.{sumOver}
+use Rattle.orders.proofs.SortLaws.{sumOver}
 use Rattle.plans.specs.Planning.{markAt}
 
 -- a mark is 0 or 1

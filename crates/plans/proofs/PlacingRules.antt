@@ -1,8 +1,9 @@
--- The rules of placing, on ticks: each task of a plan has the latest ticks that were still free, and each run is a longest stretch of one task.
+-- The rules of placing, on ticks: each task of a nested table has the latest ticks that were still free, each of a similar one runs in order as early as it
+-- can, and each run is a longest stretch of one task.
 use Prim.Native.Nat.{ℕ, zero, suc, _≤_, _<_}
 use mathlib.Core.Path.{_≡_}
 use mathlib.Core.Logic.{_≢_, inl, inr}
-use mathlib.Core.Bool.{true}
+use mathlib.Core.Bool.{Bool, true, false}
 use mathlib.Core.List.{List, [], _∷_, map}
 use mathlib.Core.Option.{none, some}
 use native.Mathlib.Omega.{arith}
@@ -12,8 +13,10 @@ use Rattle.base.specs.Members.{All, Any}
 use Rattle.base.proofs.TestLaws.{both-absurd}
 use Rattle.base.proofs.MemberLaws.{all-map, all-reverse}
 use Rattle.table.specs.declared.Table.{Table}
+use Rattle.table.specs.Kinds.{isNested}
 use Rattle.table.specs.Writing.{Legal}
 use Rattle.table.proofs.FileLaws.{legal-count}
+use Rattle.schedule.specs.declared.Job.{Job}
 use Rattle.schedule.specs.declared.Run.{Run}
 use Rattle.schedule.specs.Jobs.{jobAt}
 use Rattle.schedule.specs.Ticks.{Owner}
@@ -21,25 +24,31 @@ use Rattle.schedule.specs.Runs.{noRun, ownerOf}
 use Rattle.schedule.specs.Judging.{noneEmpty, followFrom, inOrder}
 use Rattle.schedule.proofs.RunLaws.{first-nonempty, rest-nonempty, first-follows, rest-follow}
 use Rattle.schedule.proofs.JudgeLaws.{job-position}
-use Rattle.choice.specs.Choice.{worksOf, fits, keepNone}
+use Rattle.choice.specs.Choice.{worksOf}
 use Rattle.placement.specs.Placing.{placed, latestFirst, stretches, outermostDeadline}
 use Rattle.placement.proofs.RunTicks.{Reads, Longest, longest-tail, free-beyond}
 use Rattle.placement.proofs.RunOrder.{latest-reads}
 use Rattle.placement.proofs.Sufficiency.{works-placed}
 use Rattle.placement.proofs.FilledPlaces.{chain-deadlines}
 use Rattle.placement.proofs.LatestTicks.{Latest, works-latest}
-use Rattle.nesting.specs.NestOrder.{nestBefore, outermostFirst, jobsOutermostFirst}
-use Rattle.nesting.proofs.NestLaws.{jobs-positions, nest-chain}
-use Rattle.nesting.proofs.OrderLaws.{positions-all}
-use Rattle.nesting.proofs.BeforeLaws.{before-once, Sorted, order-falls}
-use Rattle.plans.specs.Planning.{keepList, planRuns}
-use Rattle.plans.specs.Rules.{TakesLatest, LongestStretch, LongestRuns}
+use Rattle.sequence.specs.InOrder.{finish, placedInOrder}
+use Rattle.sequence.proofs.OrderSufficiency.{free-after}
+use Rattle.orders.specs.KindOrder.{kindBefore, orderLastFirst, jobsLastFirst}
+use Rattle.orders.proofs.SortLaws.{Sorted}
+use Rattle.orders.proofs.OrderLaws.{jobs-positions}
+use Rattle.orders.proofs.BeforeLaws.{kind-once, kind-falls, among-order}
+use Rattle.plans.specs.Planning.{fitsBy, runsBy, keepList, planRuns, mandatoryFit}
+use Rattle.plans.specs.KindJobs.{JobsOfKind}
+use Rattle.plans.specs.Rules.{PlacedAs, LongestStretch, LongestRuns}
+use Rattle.plans.proofs.JobPlans.{placedBy}
+use Rattle.plans.proofs.TableJobs.{kind-jobs}
 use Rattle.plans.proofs.PlanLaws.{keeps-fit, plan-listed, plan-owner, plan-few}
+use Rattle.plans.proofs.EarlyTicks.{held-ordered, held-early}
 
--- what holds of jobs outermost first, by position: the jobs after that of task i are those before it in nest order
-latest-at : (t : Table) (owner : Owner) (i : ℕ) (js : List ℕ) → Sorted t js → Any (λ j. j ≡ i) js → Latest (map (jobAt t) js) owner
+-- what holds of jobs last first, by position: the jobs after that of task i are those before it in the order
+latest-at : (t : Table) (owner : Owner) (i : ℕ) (js : List ℕ) → Sorted (kindBefore t) js → Any (λ j. j ≡ i) js → Latest (map (jobAt t) js) owner
     → (u v : ℕ) → jobAt t i .release ≤ u → u < jobAt t i .deadline → owner u ≢ some i
-    → ((j : ℕ) → owner u ≡ some j → nestBefore t i j ≡ true) → owner v ≡ some i → u < v
+    → ((j : ℕ) → owner u ≡ some j → kindBefore t i j ≡ true) → owner v ≡ some i → u < v
 latest-at t owner i (k ∷ js) s (inr m) h = latest-at t owner i js (s .1) m (h .1)
 latest-at t owner i (k ∷ js) s (inl e) h =
     rw (← e)
@@ -47,10 +56,10 @@ latest-at t owner i (k ∷ js) s (inl e) h =
     h .0 u v a b (rw (job-position t k) left)
     (λ j q.
     rw (jobs-positions t js)
-    (all-map (λ n. nestBefore t n k ≡ true) (λ n. j ≢ n) js
+    (all-map (λ n. kindBefore t n k ≡ true) (λ n. j ≢ n) js
     (λ n before same.
-    let other : nestBefore t k n ≡ true = rw same at (outer j q) in
-    both-absurd (nestBefore t n k) before (before-once t k n other))
+    let other : kindBefore t k n ≡ true = rw same at (outer j q) in
+    both-absurd (kindBefore t n k) before (kind-once t k n other))
     (s .0)))
     (rw (job-position t k) has))
 
@@ -127,29 +136,41 @@ starts-rise from (run ∷ (next ∷ runs)) ne fo zero l =
 starts-rise from (run ∷ (next ∷ runs)) ne fo (suc k) l =
     starts-rise (run .end) (next ∷ runs) (rest-nonempty run (next ∷ runs) ne) (rest-follow from run (next ∷ runs) fo) k (omega arith)
 
--- The plan of an accepted table whose mandatory parts fit.
-module _ (t : Table) (legal : Legal t) (none : fits (jobsOutermostFirst t) (keepNone (jobsOutermostFirst t)) ≡ true) where
-  -- each of its jobs has the latest ticks that were still free
-  plan-placed : Latest (map (jobAt t) (outermostFirst t (t .count))) (placed (jobsOutermostFirst t) (keepList t))
-  unfolding jobsOutermostFirst
-  plan-placed = works-latest (jobsOutermostFirst t) (worksOf (jobsOutermostFirst t) (keepList t)) (nest-chain t legal) (keeps-fit t legal none)
+-- What the runs of a list that fits are: longest stretches of the placing.
+longest-by : (nested : Bool) (jobs : List Job) (keeps : List Bool) → JobsOfKind nested jobs → fitsBy nested jobs keeps ≡ true
+    → All (LongestStretch (placedBy nested jobs keeps)) (runsBy nested jobs keeps)
+unfolding fitsBy placedBy runsBy
+longest-by true jobs keeps c e =
+    stretches-longest (placed jobs keeps) (outermostDeadline jobs)
+    (free-beyond (placed jobs keeps) jobs (outermostDeadline jobs) (outermostDeadline jobs) (works-placed jobs (worksOf jobs keeps) c e .inside)
+    (chain-deadlines jobs c) (omega arith))
+longest-by false jobs keeps s e =
+    stretches-longest (placedInOrder jobs keeps) (finish jobs keeps) (free-after jobs keeps (finish jobs keeps) (omega arith))
 
-  -- Each task takes the latest ticks of its window that are still free.
-  pub plan-latest : TakesLatest t (ownerOf (planRuns t))
-  plan-latest =
-      rw (plan-owner t legal none)
-      (λ i u v l.
-      latest-at t (placed (jobsOutermostFirst t) (keepList t)) i (outermostFirst t (t .count)) (order-falls t (t .count)) (positions-all t i l) plan-placed u v)
+-- How the jobs of a table are placed, by position.
+placed-as : (nested : Bool) (t : Table) (keeps : List Bool) → JobsOfKind nested (jobsLastFirst t) → fitsBy nested (jobsLastFirst t) keeps ≡ true
+    → PlacedAs nested t (placedBy nested (jobsLastFirst t) keeps)
+unfolding fitsBy placedBy jobsLastFirst
+placed-as true t keeps c e =
+    λ i u v l.
+    latest-at t (placed (jobsLastFirst t) keeps) i (orderLastFirst t) (kind-falls t) (among-order t i l)
+    (works-latest (jobsLastFirst t) (worksOf (jobsLastFirst t) keeps) c e) u v
+placed-as false t keeps s e =
+    record {
+      ordered = λ i j u v b. held-ordered t (orderLastFirst t) keeps (kind-falls t) i j u v b;
+      early = λ i u v r l has left. held-early t (orderLastFirst t) keeps (kind-falls t) i u v r l has left;
+    }
+
+-- The plan of an accepted table whose mandatory parts fit.
+module _ (t : Table) (legal : Legal t) (none : mandatoryFit t ≡ true) where
+  -- Its work is placed as the rules of its kind say.
+  pub plan-placed : PlacedAs (isNested t) t (ownerOf (planRuns t))
+  plan-placed = rw (plan-owner t legal none) (placed-as (isNested t) t (keepList t) (kind-jobs t legal) (keeps-fit t legal none))
 
   -- its runs are longest stretches
-  plan-stretches : All (LongestStretch (placed (jobsOutermostFirst t) (keepList t))) (planRuns t)
+  plan-stretches : All (LongestStretch (placedBy (isNested t) (jobsLastFirst t) (keepList t))) (planRuns t)
   unfolding planRuns
-  plan-stretches =
-      let jobs = jobsOutermostFirst t in
-      let chain = nest-chain t legal in
-      stretches-longest (placed jobs (keepList t)) (outermostDeadline jobs)
-      (free-beyond (placed jobs (keepList t)) jobs (outermostDeadline jobs) (outermostDeadline jobs)
-      (works-placed jobs (worksOf jobs (keepList t)) chain (keeps-fit t legal none) .inside) (chain-deadlines jobs chain) (omega arith))
+  plan-stretches = longest-by (isNested t) (jobsLastFirst t) (keepList t) (kind-jobs t legal) (keeps-fit t legal none)
 
   -- Its runs are longest stretches, by start, and never more than 2n − 1.
   pub plan-longest : LongestRuns t (planRuns t)

@@ -11,6 +11,8 @@ use Rattle.base.specs.Lent.{writtenFront}
 use Rattle.base.proofs.TestLaws.{cases}
 use Rattle.table.specs.declared.Table.{Table}
 use Rattle.table.specs.declared.Answer.the-variants.{Accepted}
+use Rattle.table.specs.Kinds.{isNested}
+use Rattle.table.specs.Writing.{Legal}
 use Rattle.table.specs.Answers.{numberOf, placeOf, isAccepted}
 use Rattle.table.specs.Reading.{tableIn, readAnswer}
 use Rattle.table.proofs.AnswerLaws.{refused-number, number-low, accepted-is}
@@ -19,28 +21,29 @@ use Rattle.schedule.specs.declared.Run.{Run}
 use Rattle.schedule.specs.Runs.{startsOf, endsOf, tasksOf}
 use Rattle.schedule.specs.Judging.{judgeSays}
 use Rattle.plans.specs.declared.Planned.{Planned}
-use Rattle.plans.specs.Planning.{LentLists, shortLists, firstExceeding, planMarks, planRuns, planDeclined, planOf, planTable, planReply, planWritten, listsAfter}
+use Rattle.plans.specs.Planning.{LentLists, shortLists, unmetBy, firstUnmet, planMarks, planRuns, planDeclined, planOf, planTable, planReply, planWritten, listsAfter}
 use Rattle.plans.specs.Demands.{marksIn, runsIn, EightExactly, JudgeAccepts, PlannedOptimal}
-use Rattle.plans.specs.Rules.{FirstExceeding, PlannedByRules, EightFirst}
-use Rattle.plans.proofs.PlanLaws.{none-exceeds, marks-length, plan-optimal, plan-impossible, Plannable, plan-judged}
-use Rattle.plans.proofs.ExceedingFirst.{exceeding-first}
+use Rattle.plans.specs.Rules.{FirstUnmet, FirstExceeding, PlannedByRules, EightFirst}
+use Rattle.plans.proofs.PlanLaws.{none-unmet, marks-length, plan-optimal, plan-impossible, Plannable, plan-judged}
+use Rattle.plans.proofs.UnmetFirst.{unmet-first}
+use Rattle.plans.proofs.ExceedingFirst.{firstExceeding, exceeding-first}
 use Rattle.plans.proofs.RuleLaws.{plan-by-rules}
-use Rattle.plans.proofs.PlacingRules.{plan-latest, plan-longest}
+use Rattle.plans.proofs.PlacingRules.{plan-placed, plan-longest}
 use Rattle.schedule.proofs.ColumnLaws.{columns-runs}
 use Rattle.base.proofs.ListLaws.{front-taken}
 
 -- The replies on a table, by the tests that lead to them: 8, 9, and the plan.
-pub table-exceeds : (t : Table) (lists : LentLists) → firstExceeding t < t .count → planTable t lists ≡ planDeclined 8 (firstExceeding t)
+pub table-unmet : (t : Table) (lists : LentLists) → firstUnmet t < t .count → planTable t lists ≡ planDeclined 8 (firstUnmet t)
 unfolding planTable
-table-exceeds t lists l = rw (lt-ltb (firstExceeding t) (t .count) l)
+table-unmet t lists l = rw (lt-ltb (firstUnmet t) (t .count) l)
 
-pub table-short : (t : Table) (lists : LentLists) → t .count ≤ firstExceeding t → shortLists (t .count) lists ≡ true → planTable t lists ≡ planDeclined 9 0
+pub table-short : (t : Table) (lists : LentLists) → t .count ≤ firstUnmet t → shortLists (t .count) lists ≡ true → planTable t lists ≡ planDeclined 9 0
 unfolding planTable
-table-short t lists l e = rw (le-ltb (firstExceeding t) (t .count) l, e)
+table-short t lists l e = rw (le-ltb (firstUnmet t) (t .count) l, e)
 
-pub table-plans : (t : Table) (lists : LentLists) → t .count ≤ firstExceeding t → shortLists (t .count) lists ≡ false → planTable t lists ≡ planOf t
+pub table-plans : (t : Table) (lists : LentLists) → t .count ≤ firstUnmet t → shortLists (t .count) lists ≡ false → planTable t lists ≡ planOf t
 unfolding planTable
-table-plans t lists l e = rw (le-ltb (firstExceeding t) (t .count) l, e)
+table-plans t lists l e = rw (le-ltb (firstUnmet t) (t .count) l, e)
 
 -- A refusal leaves every lent list as it was.
 pub lists-kept : (t : Table) (reply : Planned) (lists : LentLists) → eqb (reply .number) 0 ≡ false → lists ≡ listsAfter t reply lists
@@ -73,10 +76,10 @@ file-accepted file lists e = rw e
 
 -- a table that gets a plan: its reply, and that its mandatory parts fit
 table-planned : (t : Table) (lists : LentLists) → planTable t lists .number ≡ 0
-    → (ltb (firstExceeding t) (t .count) ≡ false) × (planTable t lists ≡ planOf t)
+    → (ltb (firstUnmet t) (t .count) ≡ false) × (planTable t lists ≡ planOf t)
 unfolding planTable
 table-planned t lists =
-    cases (ltb (firstExceeding t) (t .count))
+    cases (ltb (firstUnmet t) (t .count))
     (λ e. rw e (λ z. absurd (omega arith)))
     (λ e.
     rw e
@@ -97,7 +100,7 @@ plan-made file lists =
     let accepted = accepted-is (readAnswer file) e in
     let known = table-planned (tableIn file) lists z in
     record {
-      made = record { accepted = accepted; legal = read-legal file accepted; none = none-exceeds (tableIn file) (known .0) };
+      made = record { accepted = accepted; legal = read-legal file accepted; none = none-unmet (tableIn file) (known .0) };
       reply-is = known .1;
     }))
     (λ e. rw e (λ z. absurd (eqb-false (numberOf (readAnswer file)) 0 (refused-number (readAnswer file) e) z)))
@@ -174,23 +177,34 @@ reply-by-rules file reply old new r z =
     (record {
       chosen = plan-by-rules (tableIn file) (m .made .none);
       together = plan-optimal (tableIn file) (m .made .legal) (m .made .none) .together;
-      latest = plan-latest (tableIn file) (m .made .legal) (m .made .none);
+      placed = plan-placed (tableIn file) (m .made .legal) (m .made .none);
       longest = plan-longest (tableIn file) (m .made .legal) (m .made .none);
     })
 
+-- In a nested table the search for an unmet task is that for one that exceeds its window.
+unmet-exceeding : (t : Table) → isNested t ≡ true → firstUnmet t ≡ firstExceeding t
+unfolding firstUnmet unmetBy firstExceeding
+unmet-exceeding t e = rw e refl
+
 -- The place of an 8, on the table of an accepted file and on any file: no refusal of reading has the number 8.
-table-first : (t : Table) (lists : LentLists) → planTable t lists .number ≡ 8 → FirstExceeding t (planTable t lists .place)
+table-first : (t : Table) → Legal t → (lists : LentLists) → planTable t lists .number ≡ 8
+    → FirstUnmet t (planTable t lists .place) × (isNested t ≡ true → FirstExceeding t (planTable t lists .place))
 unfolding planTable planOf
-table-first t lists =
-    cases (ltb (firstExceeding t) (t .count))
-    (λ e. rw e (λ z. exceeding-first t (firstExceeding t) .0 (refl, ltb-true (firstExceeding t) (t .count) e)))
+table-first t legal lists =
+    cases (ltb (firstUnmet t) (t .count))
+    (λ e.
+    let found = ltb-true (firstUnmet t) (t .count) e in
+    rw e (λ z. (
+      unmet-first t legal (firstUnmet t) .0 (refl, found),
+      λ n. exceeding-first t (firstUnmet t) .0 (sym (unmet-exceeding t n), found),
+    )))
     (λ e. rw e (cases (shortLists (t .count) lists) (λ h. rw h (λ z. absurd (omega arith))) (λ h. rw h (λ z. absurd (omega arith)))))
 
 pub plan-first : (file : List ℕ) (lists : LentLists) → EightFirst file (planReply file lists)
 unfolding planReply
 plan-first file lists =
     cases (isAccepted (readAnswer file))
-    (λ e. rw e (table-first (tableIn file) lists))
+    (λ e. rw e (table-first (tableIn file) (read-legal file (accepted-is (readAnswer file) e)) lists))
     (λ e. rw e (λ z. absurd (omega (arith, number-low (readAnswer file)))))
 
 -- Every clause of the plan call, from its reply and the content of the lent lists.

@@ -1,3 +1,4 @@
 pub mod Planning
 pub mod Demands
 pub mod Rules
+pub mod KindJobs

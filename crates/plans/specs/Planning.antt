@@ -1,6 +1,6 @@
 -- Planning a table: the keep list, the runs, the reply, and what the lent lists hold afterwards.
 use Prim.Native.Nat.{ℕ, _+_, _-_, _*_}
-use mathlib.Core.List.{List, [], _∷_, map}
+use mathlib.Core.List.{List, [], _∷_, map, reverse}
 use mathlib.Core.Bool.{Bool}
 use lib.Dec.{ltb, eqb}
 use lib.ListN.{length, replicate}
@@ -8,38 +8,65 @@ use Rattle.base.specs.Tests.{pick, or}
 use Rattle.base.specs.Places.{places}
 use Rattle.base.specs.Lent.{writtenFront}
 use Rattle.table.specs.declared.Table.{Table}
+use Rattle.table.specs.Kinds.{isNested}
 use Rattle.table.specs.Answers.{numberOf, placeOf, isAccepted}
 use Rattle.table.specs.Reading.{tableIn, readAnswer}
 use Rattle.schedule.specs.declared.Job.{Job}
 use Rattle.schedule.specs.declared.Run.{Run}
-use Rattle.schedule.specs.Jobs.{jobAt, windowTicks}
+use Rattle.schedule.specs.Jobs.{windowTicks}
 use Rattle.schedule.specs.Ticks.{one}
 use Rattle.schedule.specs.Runs.{startsOf, endsOf, tasksOf}
-use Rattle.choice.specs.Choice.{chosen, kept, discarded}
+use Rattle.choice.specs.Choice.{keepNone, fits, chosen, kept, discarded}
 use Rattle.placement.specs.Placing.{runsPlaced}
 use Rattle.placement.specs.ByPosition.{numberAt}
-use Rattle.nesting.specs.NestOrder.{nestOrder, jobsOutermostFirst}
+use Rattle.sequence.specs.InOrder.{fitsInOrder, runsInOrder, firstLate}
+use Rattle.sequence.specs.OrderChoice.{chosenInOrder}
+use Rattle.orders.specs.KindOrder.{jobsLastFirst}
 use Rattle.plans.specs.declared.Planned.{Planned}
 
--- 8: 'first task in nest order where the mandatory ticks up to and with it exceed its window'.
+-- The plan of jobs, of a nested table or of a similar one. They stand in the order of the table's kind, last first: of a nested table outermost first.
 
--- its position, among jobs in nest order that come after others of `sum` mandatory ticks, and n where there is none
+-- 8 'names the first task in its kind's order where the mandatory ticks up to and with it can't be met'. Of a nested table it is the 'first task in nest
+-- order where the mandatory ticks up to and with it exceed its window': its position, among jobs in nest order that come after others of `sum` mandatory
+-- ticks, and n where there is none.
 unfoldable pub exceedingAfter : ℕ → ℕ → List Job → ℕ
 exceedingAfter n sum [] = n
 exceedingAfter n sum (job ∷ jobs) =
     pick (ltb (windowTicks job) (sum + job .mandatory)) (job .position) (exceedingAfter n (sum + job .mandatory) jobs)
 
--- its position in a table, and the task count where there is none
-unfoldable pub firstExceeding : Table → ℕ
-firstExceeding t = exceedingAfter (t .count) 0 (map (jobAt t) (nestOrder t))
+-- its position, and n where there is none: of a similar table it is the first that is late where all run in order, as early as they can
+unfoldable pub unmetBy : Bool → ℕ → List Job → ℕ
+unmetBy nested n jobs = pick nested (exceedingAfter n 0 (reverse jobs)) (firstLate n jobs)
+
+-- a keep list fits
+unfoldable pub fitsBy : Bool → List Job → List Bool → Bool
+fitsBy nested jobs keeps = pick nested (fits jobs keeps) (fitsInOrder jobs keeps)
+
+-- the keep list that is taken
+unfoldable pub chosenAs : Bool → List Job → List Bool
+chosenAs nested jobs = pick nested (chosen jobs) (chosenInOrder jobs)
+
+-- the runs of the placing under a keep list
+unfoldable pub runsBy : Bool → List Job → List Bool → List Run
+runsBy nested jobs keeps = pick nested (runsPlaced jobs keeps) (runsInOrder jobs keeps)
+
+-- The plan of a table.
+
+-- the mandatory parts alone fit
+unfoldable pub mandatoryFit : Table → Bool
+mandatoryFit t = fitsBy (isNested t) (jobsLastFirst t) (keepNone (jobsLastFirst t))
+
+-- the place of an 8, and the task count where there is none
+unfoldable pub firstUnmet : Table → ℕ
+firstUnmet t = unmetBy (isNested t) (t .count) (jobsLastFirst t)
 
 -- 9: 'a lent list is too short: n marks, 2n − 1 runs'; from the lengths of the lists
 unfoldable pub tooShort : ℕ → ℕ → ℕ → ℕ → ℕ → Bool
 tooShort n marks starts ends tasks = or (ltb marks n) (or (ltb starts (2 * n - 1)) (or (ltb ends (2 * n - 1)) (ltb tasks (2 * n - 1))))
 
--- the keep list of a table, outermost first
+-- the keep list of a table, in the order of its kind, last first
 unfoldable pub keepList : Table → List Bool
-keepList t = chosen (jobsOutermostFirst t)
+keepList t = chosenAs (isNested t) (jobsLastFirst t)
 
 -- the mark of a position in a keep list of jobs: 1 kept, 0 discarded
 abbrev pub markAt : List Job → List Bool → ℕ → ℕ
@@ -47,25 +74,22 @@ markAt jobs keeps = numberAt jobs (map one keeps)
 
 -- the marks of a plan: the keep list by position
 unfoldable pub planMarks : Table → List ℕ
-planMarks t = places (markAt (jobsOutermostFirst t) (keepList t)) (t .count)
+planMarks t = places (markAt (jobsLastFirst t) (keepList t)) (t .count)
 
 -- the runs of a plan, by start
 unfoldable pub planRuns : Table → List Run
-planRuns t = runsPlaced (jobsOutermostFirst t) (keepList t)
+planRuns t = runsBy (isNested t) (jobsLastFirst t) (keepList t)
 
 -- the reply of a refusal, and of a plan: parts that are not named are 0
 abbrev pub planDeclined : ℕ → ℕ → Planned
 planDeclined number place = record { number = number; place = place; kept = 0; discarded = 0; runs = 0 }
 
+abbrev pub planMade : ℕ → ℕ → ℕ → Planned
+planMade kept discarded runs = record { number = 0; place = 0; kept = kept; discarded = discarded; runs = runs }
+
+-- the reply of a table's plan
 unfoldable pub planOf : Table → Planned
-planOf t =
-    record {
-      number = 0;
-      place = 0;
-      kept = kept (jobsOutermostFirst t) (keepList t);
-      discarded = discarded (jobsOutermostFirst t) (keepList t);
-      runs = length (planRuns t);
-    }
+planOf t = planMade (kept (jobsLastFirst t) (keepList t)) (discarded (jobsLastFirst t) (keepList t)) (length (planRuns t))
 
 -- The lists that a caller lends to planning: the marks, and the columns of the runs.
 pub record LentLists : Type 0 where
@@ -88,7 +112,7 @@ shortLists n lists = tooShort n (length (lists .marks)) (length (lists .starts))
 -- what planning replies on the table of an accepted file: 8, then 9, then the plan
 unfoldable pub planTable : Table → LentLists → Planned
 planTable t lists =
-    pick (ltb (firstExceeding t) (t .count)) (planDeclined 8 (firstExceeding t))
+    pick (ltb (firstUnmet t) (t .count)) (planDeclined 8 (firstUnmet t))
     (pick (shortLists (t .count) lists) (planDeclined 9 0) (planOf t))
 
 -- the reply of planning: reading's refusals, then 8, then 9

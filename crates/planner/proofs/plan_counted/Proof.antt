@@ -6,10 +6,11 @@ use Rattle.table.specs.declared.Table.{Table}
 use Rattle.table.specs.declared.Reading.{Reading}
 use Rattle.table.specs.declared.Answer.the-variants.{Accepted}
 use Rattle.table.specs.Answers.{numberOf, placeOf, isAccepted}
+use Rattle.table.specs.Kinds.{isNested}
 use Rattle.table.specs.Reading.{tableIn, readAnswer, reading}
 use Rattle.table.specs.Writing.{Legal}
 use Rattle.table.proofs.AnswerLaws.{told-refused, refused-number}
-use Rattle.table.proofs.RoundTrip.{read-legal, read-answer, read-is}
+use Rattle.table.proofs.RoundTrip.{read-legal, read-answer, read-is, read-nested}
 use Rattle.plans.specs.declared.Planned.{Planned}
 use Rattle.plans.specs.Planning.{LentLists, planDeclined, planTable, listsAfter}
 use Rattle.plans.proofs.ReplyLaws.{lists-kept, file-refused, file-accepted}
@@ -64,7 +65,10 @@ returns c =
 plan-table-requires : tie.Need-plan-table-requires
 plan-table-requires c κs =
     let told = c .before .before .before .before in
-    subst⁻¹ Legal (table-is told) (read-legal (told .before .before .before .before .before .before .before .before .before .args .file .now) (accepted told))
+    let file = told .before .before .before .before .before .before .before .before .before .args .file .now in (
+      subst⁻¹ Legal (table-is told) (read-legal file (accepted told)),
+      read-nested file _ (told .before .before .before .read .ensures) (accepted told) ∙ sym (ap isNested (table-is told)),
+    )
 
 same-length : tie.Need-same-length
 same-length c = search needs

@@ -1,0 +1,169 @@
+-- The plan of jobs of either kind: what is known of fitting lists, of the chosen list and of its runs, in one statement for both.
+use Prim.Native.Nat.{ℕ, _-_, _*_, _≤_, _<_}
+use mathlib.Core.Path.{_≡_, refl, sym, ap, _∙_}
+use mathlib.Core.Logic.{_⊎_, _↔_}
+use mathlib.Core.List.{List, [], _∷_}
+use mathlib.Core.Bool.{Bool, true, false, not}
+use native.Mathlib.Omega.{arith}
+use lib.Dec.{ltb}
+use lib.ListN.{length}
+use Rattle.base.specs.Tests.{pick}
+use Rattle.base.proofs.TestLaws.{both-absurd}
+use Rattle.base.specs.Members.{All, Distinct}
+use Rattle.schedule.specs.declared.Job.{Job}
+use Rattle.schedule.specs.declared.Run.{Run}
+use Rattle.schedule.specs.Ticks.{Owner}
+use Rattle.schedule.specs.Runnings.{Running, discards}
+use Rattle.schedule.specs.Runs.{Together}
+use Rattle.choice.specs.Choice.{keepNone, keptTicks, KeepsFirst, countOne, discarded, ZeroKept}
+use Rattle.choice.proofs.FitLaws.{fits-length, none-fits, fits-tail}
+use Rattle.choice.proofs.ChoiceLaws.{chosen-meets, meets-chosen, chosen-zero-kept}
+use Rattle.placement.specs.Chains.{positions}
+use Rattle.placement.specs.Placing.{placed, stretches, outermostDeadline}
+use Rattle.placement.proofs.Best as nests
+use Rattle.placement.proofs.RunOrder.{Listed, placed-listed, placed-few}
+use Rattle.placement.proofs.FilledPlaces.{chain-deadlines}
+use Rattle.placement.proofs.PlanLaws.{SameMarks, placed-together}
+use Rattle.sequence.specs.InOrder.{finish, placedInOrder}
+use Rattle.sequence.proofs.InOrderLaws.{order-length, order-tail, none-earliest}
+use Rattle.sequence.proofs.OrderChoiceLaws.{order-meets, meets-order, order-zero-kept}
+use Rattle.sequence.proofs.OrderSufficiency.{order-running, order-listed}
+use Rattle.sequence.proofs.RunListLaws.{order-few}
+use Rattle.sequence.proofs.OrderBest as orders
+use Rattle.sequence.proofs.LateLaws.{late-test}
+use Rattle.plans.specs.Planning.{unmetBy, fitsBy, chosenAs, runsBy}
+use Rattle.plans.specs.KindJobs.{JobsOfKind}
+use Rattle.plans.proofs.ExceedLaws.{exceeding-test}
+
+-- who has each tick under a keep list
+unfoldable pub placedBy : Bool → List Job → List Bool → Owner
+placedBy nested jobs keeps = pick nested (placed jobs keeps) (placedInOrder jobs keeps)
+
+-- no two of the jobs have one position
+pub distinct-by : (nested : Bool) (jobs : List Job) → JobsOfKind nested jobs → Distinct (positions jobs)
+distinct-by true jobs c = c .distinct
+distinct-by false jobs s = s .distinct
+
+-- a list that fits has one mark a job
+pub length-by : (nested : Bool) (jobs : List Job) (keeps : List Bool) → fitsBy nested jobs keeps ≡ true → length keeps ≡ length jobs
+unfolding fitsBy
+length-by true jobs keeps e = fits-length jobs keeps e
+length-by false jobs keeps e = order-length jobs keeps e
+
+-- if any list fits, the one that keeps nothing does
+pub none-by : (nested : Bool) (jobs : List Job) (keeps : List Bool) → fitsBy nested jobs keeps ≡ true → fitsBy nested jobs (keepNone jobs) ≡ true
+unfolding fitsBy
+none-by true jobs keeps e = none-fits jobs keeps e
+none-by false jobs keeps e = none-earliest jobs keeps e .0
+
+-- a running of the jobs exists exactly where the mandatory parts alone fit
+pub exists-by : (nested : Bool) (jobs : List Job) → JobsOfKind nested jobs
+    → ((owner : Owner) × Running jobs owner) ↔ (fitsBy nested jobs (keepNone jobs) ≡ true)
+unfolding fitsBy
+exists-by true jobs c = nests.running-exists jobs c
+exists-by false jobs s = orders.running-exists jobs s
+
+-- the search for an unmet job finds one exactly where they do not fit
+pub unmet-test : (nested : Bool) (n : ℕ) (jobs : List Job) → All (λ job. job .position < n) jobs
+    → ltb (unmetBy nested n jobs) n ≡ not (fitsBy nested jobs (keepNone jobs))
+unfolding unmetBy fitsBy
+unmet-test true n jobs h = exceeding-test n jobs h
+unmet-test false n jobs h = late-test n jobs h
+
+-- The runs of a list that fits: none is empty, they stand by start, they say who has each tick,
+pub listed-by : (nested : Bool) (jobs : List Job) (keeps : List Bool) → JobsOfKind nested jobs → fitsBy nested jobs keeps ≡ true
+    → Listed (placedBy nested jobs keeps) (runsBy nested jobs keeps)
+unfolding fitsBy placedBy runsBy
+listed-by true jobs keeps c e = placed-listed jobs keeps c e (outermostDeadline jobs) (chain-deadlines jobs c)
+listed-by false jobs keeps s e = order-listed jobs keeps s e
+
+-- and are never more than 2n − 1 for n jobs.
+pub few-by : (nested : Bool) (jobs : List Job) (keeps : List Bool) → JobsOfKind nested jobs → fitsBy nested jobs keeps ≡ true
+    → length (runsBy nested jobs keeps) ≤ 2 * length jobs - 1
+unfolding fitsBy runsBy
+few-by true jobs keeps c e = placed-few jobs keeps c e (outermostDeadline jobs) (chain-deadlines jobs c)
+few-by false jobs keeps s e = omega (arith, order-few jobs keeps s)
+
+-- With marks by position that say the same they are together a running,
+pub together-by : (nested : Bool) (jobs : List Job) (keeps : List Bool) (marks : List ℕ) → JobsOfKind nested jobs → fitsBy nested jobs keeps ≡ true
+    → SameMarks jobs keeps marks → Together jobs marks (runsBy nested jobs keeps)
+unfolding fitsBy runsBy
+together-by true jobs keeps marks c e m = placed-together jobs keeps marks c e m (outermostDeadline jobs) (chain-deadlines jobs c)
+together-by false jobs keeps marks s e m = orders.order-together jobs keeps marks s e m
+
+-- and the placing is a running
+pub running-by : (nested : Bool) (jobs : List Job) (keeps : List Bool) → JobsOfKind nested jobs → fitsBy nested jobs keeps ≡ true
+    → Running jobs (placedBy nested jobs keeps)
+unfolding fitsBy placedBy
+running-by true jobs keeps c e = nests.placed-running jobs keeps c e
+running-by false jobs keeps s e = order-running jobs keeps s e
+
+-- that discards what the list discards.
+pub discards-by : (nested : Bool) (jobs : List Job) (keeps : List Bool) → JobsOfKind nested jobs → fitsBy nested jobs keeps ≡ true
+    → discards jobs (placedBy nested jobs keeps) ≡ discarded jobs keeps
+unfolding fitsBy placedBy
+discards-by true jobs keeps c e = nests.placed-discards jobs keeps c e
+discards-by false jobs keeps s e = orders.order-discards jobs keeps s e
+
+-- The chosen list, where the mandatory parts alone fit: it fits,
+pub chosen-by : (nested : Bool) (jobs : List Job) → fitsBy nested jobs (keepNone jobs) ≡ true → fitsBy nested jobs (chosenAs nested jobs) ≡ true
+unfolding fitsBy chosenAs
+chosen-by true jobs none = chosen-meets countOne jobs none .fit
+chosen-by false jobs none = order-meets countOne jobs none .fit
+
+-- marks each optional part of 0 ticks as kept,
+pub zero-by : (nested : Bool) (jobs : List Job) → fitsBy nested jobs (keepNone jobs) ≡ true → ZeroKept jobs (chosenAs nested jobs)
+unfolding fitsBy chosenAs
+zero-by true jobs none = chosen-zero-kept jobs none
+zero-by false jobs none = order-zero-kept jobs none
+
+-- and every running of the jobs discards at least as many.
+pub least-by : (nested : Bool) (jobs : List Job) → JobsOfKind nested jobs → fitsBy nested jobs (keepNone jobs) ≡ true
+    → (owner : Owner) → Running jobs owner → discarded jobs (chosenAs nested jobs) ≤ discards jobs owner
+unfolding fitsBy chosenAs
+least-by true jobs c none = nests.chosen-least jobs c none
+least-by false jobs s none = orders.chosen-least jobs s none
+
+-- What the rules ask of the list that is taken: those of nested tables, or those of similar ones, which have no rule on kept ticks.
+pub record MeetsBy (nested : Bool) (jobs : List Job) (keeps : List Bool) : Type 0 where
+  pub fit : fitsBy nested jobs keeps ≡ true
+  pub leastDiscarded : (other : List Bool) → fitsBy nested jobs other ≡ true → discarded jobs keeps ≤ discarded jobs other
+  pub leastTicks : nested ≡ true → (other : List Bool) → fitsBy nested jobs other ≡ true → discarded jobs other ≡ discarded jobs keeps
+      → keptTicks jobs keeps ≤ keptTicks jobs other
+  pub last : (other : List Bool) → fitsBy nested jobs other ≡ true → discarded jobs other ≡ discarded jobs keeps
+      → (nested ≡ true → keptTicks jobs other ≡ keptTicks jobs keeps) → (other ≡ keeps) ⊎ KeepsFirst keeps other
+
+-- The chosen list meets them,
+pub chosen-meets-by : (nested : Bool) (jobs : List Job) → fitsBy nested jobs (keepNone jobs) ≡ true → MeetsBy nested jobs (chosenAs nested jobs)
+unfolding fitsBy chosenAs
+chosen-meets-by true jobs none =
+    let m = chosen-meets countOne jobs none in
+    record {
+      fit = m .fit;
+      leastDiscarded = m .leastDiscarded;
+      leastTicks = λ n other e d. m .leastTicks other e d;
+      last = λ other e d t. m .outermost other e d (t refl);
+    }
+chosen-meets-by false jobs none =
+    let m = order-meets countOne jobs none in
+    record {
+      fit = m .fit;
+      leastDiscarded = m .leastDiscarded;
+      leastTicks = λ n other e d. both-absurd false n refl;
+      last = λ other e d t. m .last other e d;
+    }
+
+-- and a list that meets them is the chosen one.
+pub meets-chosen-by : (nested : Bool) (jobs : List Job) (keeps : List Bool) → MeetsBy nested jobs keeps → keeps ≡ chosenAs nested jobs
+unfolding fitsBy chosenAs
+meets-chosen-by true jobs keeps m =
+    meets-chosen countOne jobs keeps
+    (record {
+      fit = m .fit;
+      leastDiscarded = m .leastDiscarded;
+      leastTicks = m .leastTicks refl;
+      outermost = λ other e d t. m .last other e d (λ n. t);
+    })
+meets-chosen-by false jobs keeps m =
+    meets-order countOne jobs keeps
+    (record { fit = m .fit; leastDiscarded = m .leastDiscarded; last = λ other e d. m .last other e d (λ n. both-absurd false n refl) })
