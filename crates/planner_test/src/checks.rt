@@ -1,10 +1,11 @@
-// Plans all tables of small sizes, and compares each plan with the search.
+// Plans all tables of small sizes, and compares each plan with the search over every keep list and, where the table has few ticks, with all its runnings.
 ghost use Prim.Native.Nat.{_≤_};
 use crate::judges;
 use base::MAX_TASKS;
 use plans::Planned;
 use small_tables::EXCEEDED;
 use small_tables::Family;
+use small_tables::NO_RUNNING;
 use small_tables::PLACES;
 use small_tables::RUNS;
 use std::num::wrapping_add_u64;
@@ -12,9 +13,11 @@ use table::NO_TASK;
 use table::Table;
 use table::Task;
 
-// What planning a table came to: the reply, and whether it, or the lists, or what the judge says is other than expected.
+// What planning a table came to: the reply, whether the windows are nested, and whether the reply, or the lists, or what the judge says is other than
+// expected.
 struct Outcome {
     reply: Planned,
+    nested: bool,
     differs: bool,
 }
 
@@ -44,29 +47,59 @@ fn is_plan(reply: Planned, score: u32, count: usize) -> bool {
         && reply.runs < count % 8 * 2
 }
 
-// The reply, the marks and the runs are what the search finds.
-fn same(
+// The reply, the marks and the runs are what the search over every keep list finds for a table of one of the kinds.
+fn same_plan(
     family: Family,
     tasks: [Task; PLACES],
+    nested: bool,
     reply: Planned,
     marks: [u8; PLACES],
     starts: [u32; RUNS],
     ends: [u32; RUNS],
     run_tasks: [u32; RUNS],
 ) -> bool {
-    let crossing = small_tables::first_crossing(tasks, family.count);
-    if crossing < 4 {
-        return is_refusal(reply, 7, crossing);
-    }
-    let none = small_tables::score(tasks, family.row, 0);
+    let none = small_tables::score(tasks, family.row, nested, 0);
     if EXCEEDED <= none {
         return is_refusal(reply, 8, (none % 4) as usize);
     }
-    let best = small_tables::best(tasks, family.row);
-    let owners = small_tables::placed(tasks, family.row, best.list);
+    let best = small_tables::best(tasks, family.row, nested);
+    let owners = small_tables::placed(tasks, family.row, nested, best.list);
     is_plan(reply, best.score, family.count)
         && list_of(marks) == best.list
         && small_tables::same_runs(owners, reply.runs, starts, ends, run_tasks)
+}
+
+// The reply is what all runnings of a table of one of the kinds say, where they can be tried: 8 where there is none, at the first task that can't be met; else
+// a plan that discards as many parts as the running that discards fewest.
+fn same_runnings(family: Family, tasks: [Task; PLACES], nested: bool, reply: Planned) -> bool {
+    if !small_tables::has_few_ticks(family) {
+        return true;
+    }
+    let fewest = small_tables::fewest_discarded(tasks, family.row);
+    if fewest == NO_RUNNING {
+        return reply.number == 8
+            && small_tables::is_first_unmet(tasks, family.row, nested, reply.place);
+    }
+    reply.number == 0 && reply.discarded == fewest
+}
+
+// The reply, the marks and the runs are as expected: 7 where the table is of neither kind.
+fn same(
+    family: Family,
+    tasks: [Task; PLACES],
+    nested: bool,
+    reply: Planned,
+    marks: [u8; PLACES],
+    starts: [u32; RUNS],
+    ends: [u32; RUNS],
+    run_tasks: [u32; RUNS],
+) -> bool {
+    let neither = small_tables::first_of_neither(tasks, family.count);
+    if neither < 4 {
+        return is_refusal(reply, 7, neither);
+    }
+    same_plan(family, tasks, nested, reply, marks, starts, ends, run_tasks)
+        && same_runnings(family, tasks, nested, reply)
 }
 
 // Plans the file of some tasks into lists of 4 marks and 7 runs, and compares.
@@ -85,9 +118,11 @@ fn planned(family: Family, tasks: [Task; PLACES], file: &[u8]) -> Outcome {
         &ends,
         &run_tasks,
     );
-    let same = same(family, tasks, reply, marks, starts, ends, run_tasks);
+    let nested = small_tables::is_nested(tasks, family.count);
+    let same = same(family, tasks, nested, reply, marks, starts, ends, run_tasks);
     Outcome {
         reply,
+        nested,
         differs: !agrees || !same,
     }
 }
@@ -109,7 +144,7 @@ fn table_of(family: Family, tasks: [Task; PLACES]) -> Table
     }
 }
 
-// Puts the file of a table into a list without the refusals of writing, since the windows may cross, and answers its length.
+// Puts the file of a table into a list without the refusals of writing, since the table may be of neither kind, and answers its length.
 fn put_file(table: Table, list: &mut [u8]) -> usize
     requires { ⌜ table .count ≤ 4 ⌝ }
 {
@@ -128,9 +163,9 @@ fn try_table(family: Family, index: u32) -> Outcome {
     planned(family, tasks, &file[0..length])
 }
 
-// Counts over tables: at places 0 to 15 the replies by their number; then the sums of kept, discarded and runs, the tables whose plan differs, and the
-// index of the first such table.
-const COUNTS: usize = 21;
+// Counts over tables: at places 0 to 15 the replies by their number; then the sums of kept, discarded and runs, the tables whose plan differs, the index
+// of the first such table, and the planned tables that are similar and not nested.
+const COUNTS: usize = 22;
 
 // The counts with one table more.
 fn counted(counts: [u64; COUNTS], outcome: Outcome, index: u32) -> [u64; COUNTS] {
@@ -141,6 +176,9 @@ fn counted(counts: [u64; COUNTS], outcome: Outcome, index: u32) -> [u64; COUNTS]
     after[16] = wrapping_add_u64(counts[16], reply.kept as u64);
     after[17] = wrapping_add_u64(counts[17], reply.discarded as u64);
     after[18] = wrapping_add_u64(counts[18], reply.runs as u64);
+    if reply.number == 0 && !outcome.nested {
+        after[21] = wrapping_add_u64(counts[21], 1);
+    }
     if outcome.differs {
         if counts[19] == 0 {
             after[20] = index as u64;
@@ -165,10 +203,11 @@ fn try_all(family: Family, tables: u32) -> [u64; COUNTS] {
 // Prints the counts over so many tables.
 fn show(tables: u32, counts: [u64; COUNTS]) {
     cases::show(
-        b" # # # # # # # # #\n",
+        b" # # # # # # # # # #\n",
         &[
             tables as u64,
             counts[0],
+            counts[21],
             counts[7],
             counts[8],
             counts[16],
@@ -180,18 +219,21 @@ fn show(tables: u32, counts: [u64; COUNTS]) {
     );
 }
 
-// A family: its tasks, p, q, the row of its ticks, 1 where its windows are a chain, and the number of its tables. Plans all its tables and prints the counts.
+// A family: its tasks, p, q, the row of its ticks, the first of its windows and how many more there are, the most optional ticks, and the number of its
+// tables. Plans all its tables and prints the counts.
 pub fn family(line: &[u8]) {
-    let mut numbers = [0u32; 6];
+    let mut numbers = [0u32; 8];
     cases::numbers(line, 1, &mut numbers);
     let family = Family {
         count: (numbers[0] % 5) as usize,
         p: numbers[1],
         q: numbers[2],
         row: (numbers[3] % 3) as usize,
-        chain: numbers[4] == 1,
+        first: numbers[4],
+        more: numbers[5],
+        optional: numbers[6],
     };
-    let tables = numbers[5];
+    let tables = numbers[7];
     cases::show_title(line);
     show(tables, try_all(family, tables));
 }

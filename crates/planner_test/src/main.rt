@@ -1,12 +1,25 @@
-// Plans the sample flights of document 01 and prints the plans, and plans all tables of small sizes and compares each plan with a search over every
-// keep list. The cases are the lines of the file `stdin`, of which a line that starts with `#` is a comment.
+// Plans the sample flights, P1 to P12 of document 01, P9 with the lengths chosen in `samples`, and prints the plans; and plans all tables of small sizes and
+// compares each plan with the rules tried on everything. The cases are the lines of the file `stdin`, of which a line that starts with `#` is a comment.
 //
 // A sample has its number, and then P1 to P3 the release tick and the deadline tick; P4 to P11 the reply's number, place, kept, discarded and runs;
 // P12 the number, place and bytes. Below a plan stand the lists: at each place the mark, and the start, the end and the task of the run, 77 where
 // nothing was written.
 //
-// A line on small tables has the number of tasks and the period; then how many tables there are, how many were planned, refused by 7 and refused by
-// 8; the sums of kept, discarded and runs; how many have another plan than the one that the search finds, and the index of the first of them.
+// A line on small tables has the number of tasks and the period; then how many tables there are, how many were planned, how many of these are similar and
+// not nested, how many were refused by 7 and refused by 8; the sums of kept, discarded and runs; how many have another reply or plan than expected, and the
+// index of the first of them.
+//
+// The sizes. In all of them a task has 0 or 1 mandatory ticks.
+// - All tables whose windows lie within frames 0 to 3, which are three or four ticks: 1 task with the period 1/1, 2 and 3 tasks with 1/1, 3/2 and 5/4, each
+//   with 0 to 3 optional ticks; 4 tasks with 1/1 and 0 to 1 optional ticks.
+// - All tables of 4 tasks with 1/1 and 0 to 2 optional ticks whose windows are among three, one in the other or one after the other, within frames 0 to 6,
+//   which are six ticks.
+//
+// How they are tried.
+// - Both sizes on all keep lists. The kind and the place of 7 are found from all pairs of windows; the choice, the placing and the place of 8 by trying every
+//   keep list.
+// - The tables within frames 0 to 3 on all runnings too. Whether 8 is due, its place, and the fewest parts discarded are found once more, from the definition
+//   of a running, by trying every way to give each tick to a task or to none. Of six ticks and 4 tasks there would be 15,625 ways a table.
 mod checks;
 mod judges;
 mod samples;

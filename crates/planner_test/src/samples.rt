@@ -1,4 +1,4 @@
-// The sample flights of document 01.
+// The sample flights: P1 to P12 of document 01, P9 with the lengths chosen in `samples`.
 use crate::judges;
 use plans::Planned;
 

@@ -51,7 +51,7 @@ fn refused(reply: Written, errors: i32) {
         6 => complain(line, b"release frame not below deadline frame", errors),
         _ => complain(
             line,
-            b"its window is not nested with that of an earlier task",
+            b"the windows up to this task neither nest nor follow one another",
             errors,
         ),
     }

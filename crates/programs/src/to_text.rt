@@ -25,7 +25,7 @@ fn cause(number: u32, errors: i32) {
         ),
         _ => io::write_all(
             errors,
-            b"window not nested with that of an earlier task (the place is the task's position)\n",
+            b"the windows up to this task neither nest nor follow one another (the place is the task's position)\n",
         ),
     }
     ;

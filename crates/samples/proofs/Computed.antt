@@ -8,20 +8,63 @@ use Rattle.bits.specs.Rows.{rowBits, rowsBits}
 use Rattle.clock.specs.Clock.{releaseTick, deadlineTick}
 use Rattle.table.specs.Tables.{taskAt, tableOf, noTable}
 use Rattle.table.specs.Layout.{taskStart, fileLength, badCount, badPeriod}
-use Rattle.table.specs.Windows.{reversed, contains, nested, crosses, forwardAnswer, nestingAnswer, windowAnswer}
-use Rattle.table.specs.Reading.{countIn, pIn, qIn, taskFrom, taskIn, tableIn, paddingSet, frontAnswer, headAnswer, readAnswer, reading}
+use Rattle.table.specs.Windows.{reversed, contains, nested, noLater, similar}
+use Rattle.table.specs.Kinds.{
+  failsEarlier,
+  pairwise,
+  isNested,
+  ofNeitherKind,
+  forwardAnswer,
+  kindAnswer,
+  windowsAnswer,
+  windowAnswer,
+  nestingAnswer,
+}
+use Rattle.table.specs.Reading.{countIn, pIn, qIn, taskFrom, taskIn, tableIn, paddingSet, frontAnswer, headAnswer, readAnswer, readNested, reading}
 use Rattle.table.specs.Writing.{headBits, rowsFile, fileOf, tooWide, firstTooWide, rowsReply, writeReply}
 use Rattle.table.specs.Moving.{movedOutside, firstOutside, moveReply}
 use Rattle.schedule.specs.Jobs.{jobOf, jobAt}
 use Rattle.schedule.specs.Ticks.{countBelow}
 use Rattle.schedule.specs.Runs.{badColumns, runAt, runsOf}
-use Rattle.schedule.specs.Judging.{noneEmpty, verdict, firstBadMark, judgeTable, judged}
+use Rattle.schedule.specs.Judging.{
+  noneEmpty,
+  followFrom,
+  inOrder,
+  knownTasks,
+  inWindows,
+  totalOf,
+  exactTotals,
+  verdict,
+  keptCount,
+  discardedCount,
+  firstBadMark,
+  judgeTable,
+  judged,
+}
 use Rattle.schedule.specs.BusyCount.{busyReply}
-use Rattle.choice.specs.Choice.{total, worksFit, worksOf, keepLists, keptTicks, lexLess, discardedWorth, keptWorth, key, better, best, chosenBy}
+use Rattle.choice.specs.Choice.{total, worksFit, worksOf, keepLists, keptTicks, lexLess, discardedWorth, keptWorth, key, better, best, bestList, chosenBy}
 use Rattle.placement.specs.Placing.{worksPlaced, latestFirst}
 use Rattle.placement.specs.ByPosition.{numberAt}
-use Rattle.nesting.specs.NestOrder.{nestBefore, insertOuter, outermostFirst, nestOrder, jobsOutermostFirst}
-use Rattle.plans.specs.Planning.{exceedingAfter, firstExceeding, tooShort, keepList, planMarks, planRuns, planOf, planTable, planReply}
+use Rattle.sequence.specs.InOrder.{endsAt, inTime, finish, fitsInOrder, placedInOrder, firstLate}
+use Rattle.sequence.specs.OrderChoice.{orderKey, chosenInOrderBy}
+use Rattle.orders.specs.Sorting.{insertLater, lastFirst}
+use Rattle.orders.specs.NestOrder.{nestBefore}
+use Rattle.orders.specs.SimilarOrder.{similarBefore}
+use Rattle.orders.specs.KindOrder.{beforeBy, kindBefore, orderLastFirst, jobsLastFirst}
+use Rattle.plans.specs.Planning.{
+  exceedingAfter,
+  unmetBy,
+  chosenAs,
+  runsBy,
+  firstUnmet,
+  tooShort,
+  keepList,
+  planMarks,
+  planRuns,
+  planOf,
+  planTable,
+  planReply,
+}
 use Rattle.lines.specs.Text.{decimalWithin, decimal, fields, line}
 use Rattle.printed_plan.specs.Printing.{
   dropsFrom,
@@ -37,9 +80,9 @@ use Rattle.printed_plan.specs.Printing.{
 use Rattle.samples.specs.Inputs.{ascii, textOf}
 use Rattle.samples.specs.Samples.{samples}
 use Rattle.samples.specs.Refusals.{computedRows}
-use Rattle.samples.specs.SampleTests.{allPass, sameNumbers, sameRuns, sameTasks, sameTable, fileMet, planMet, sampleMet, callMet}
+use Rattle.samples.specs.SampleTests.{allPass, sameNumbers, sameRuns, sameTasks, sameTable, fileMet, kindMet, planMet, sampleMet, callMet}
 
 -- every sample flight passes, and every call whose test is computed
 pub all-pass : (allPass sampleMet samples ≡ true) × (allPass callMet computedRows ≡ true)
-unfolding allPass sampleMet planMet fileMet callMet sameTable sameTasks sameRuns sameNumbers textOf ascii printed longReply refusalText planText planLines runLines runLine dropLines dropsFrom line fields decimal decimalWithin planReply planTable planOf planRuns planMarks numberAt keepList tooShort firstExceeding exceedingAfter jobsOutermostFirst nestOrder outermostFirst insertOuter nestBefore worksPlaced latestFirst chosenBy best better key keptWorth discardedWorth lexLess keptTicks keepLists worksFit worksOf total countBelow busyReply judged judgeTable firstBadMark verdict noneEmpty runsOf runAt badColumns jobAt jobOf moveReply firstOutside movedOutside writeReply rowsReply firstTooWide tooWide fileOf rowsFile headBits reading readAnswer headAnswer frontAnswer paddingSet tableIn taskIn taskFrom qIn pIn countIn windowAnswer forwardAnswer nestingAnswer crosses nested contains reversed badPeriod badCount fileLength taskStart noTable tableOf taskAt releaseTick deadlineTick rowsBits rowBits pack bytesFrom bytesFor bitIn bitsOf field number bitAt placesFrom places someBelow lowest lowestFrom
+unfolding allPass sampleMet planMet kindMet fileMet callMet sameTable sameTasks sameRuns sameNumbers textOf ascii printed longReply refusalText planText planLines runLines runLine dropLines dropsFrom line fields decimal decimalWithin planReply planTable planOf planRuns planMarks numberAt keepList tooShort firstUnmet runsBy chosenAs unmetBy exceedingAfter jobsLastFirst orderLastFirst beforeBy kindBefore similarBefore nestBefore lastFirst insertLater chosenInOrderBy orderKey firstLate placedInOrder fitsInOrder finish inTime endsAt worksPlaced latestFirst chosenBy bestList best better key keptWorth discardedWorth lexLess keptTicks keepLists worksFit worksOf total countBelow busyReply judged judgeTable firstBadMark keptCount discardedCount verdict exactTotals totalOf inWindows knownTasks inOrder followFrom noneEmpty runsOf runAt badColumns jobAt jobOf moveReply firstOutside movedOutside writeReply rowsReply firstTooWide tooWide fileOf rowsFile headBits reading readNested readAnswer headAnswer frontAnswer paddingSet tableIn taskIn taskFrom qIn pIn countIn nestingAnswer windowAnswer windowsAnswer kindAnswer forwardAnswer ofNeitherKind isNested pairwise failsEarlier similar noLater nested contains reversed badPeriod badCount fileLength taskStart noTable tableOf taskAt releaseTick deadlineTick rowsBits rowBits pack bytesFrom bytesFor bitIn bitsOf field number bitAt placesFrom places someBelow lowest lowestFrom
 all-pass = (refl, refl)

@@ -17,6 +17,7 @@ use Rattle.table.specs.declared.Answer.the-variants.{Accepted}
 use Rattle.table.specs.declared.Reading.{Reading}
 use Rattle.table.specs.Tables.{tableOf}
 use Rattle.table.specs.Answers.{numberOf, placeOf, wrote}
+use Rattle.table.specs.Kinds.{isNested}
 use Rattle.table.specs.Reading.{reading}
 use Rattle.table.specs.Writing.{fileOf, writeReply}
 use Rattle.table.proofs.TableLaws.{tableOf-canonical}
@@ -66,9 +67,9 @@ written-reads : (count p q : ℕ) (task : ℕ → Task) (room bytes : ℕ) → w
 unfolding tableOf
 written-reads count p q task room bytes e =
     let t : Table = tableOf count p q task in
-    let r : reading (fileOf t) ≡ record { answer = Accepted; table = t } =
+    let r : reading (fileOf t) ≡ record { answer = Accepted; nested = isNested t; table = t } =
     written-read (accepted-legal t room (ap (λ (w : Written). w .number) e) .legal)
-    ∙ ap {B = Reading} (λ (x : Table). record { answer = Accepted; table = x }) (tableOf-canonical count p q task) in
+    ∙ ap {B = Reading} (λ (x : Table). record { answer = Accepted; nested = isNested x; table = x }) (tableOf-canonical count p q task) in
     rw r (refl, refl, refl)
 
 -- runs of one tick each, from run i on
@@ -95,7 +96,7 @@ ticks-counted n h =
       ticks-from n 0 n (omega arith),
     )
 
--- The refusals of document 01: each call of the table gets the whole reply of its row.
+-- The refusals: each call of the table gets the whole reply of its row.
 pub refusal-samples : All CallSays refusals
 refusal-samples =
     all-append CallSays computedRows largeRows computed-say (

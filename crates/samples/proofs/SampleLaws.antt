@@ -1,8 +1,9 @@
--- P1 to P12: the law that turns the test of a sample into what the sample says.
-use mathlib.Core.Path.{_≡_}
+-- The sample flights: the law that turns the test of a sample into what the sample says.
+use mathlib.Core.Path.{_≡_, refl, ap, _∙_}
 use mathlib.Core.Bool.{true}
 use mathlib.Core.List.{List}
 use Prim.Native.Nat.{ℕ}
+use native.Mathlib.Omega.{arith}
 use lib.Dec.{eqb}
 use lib.ListN.{length}
 use borrow.Author.Tests.{eqb-true, eq-eqb}
@@ -10,14 +11,19 @@ use Rattle.base.specs.Tests.{pick, and}
 use Rattle.base.specs.Members.{All}
 use Rattle.clock.specs.Clock.{releaseTick, deadlineTick}
 use Rattle.table.specs.declared.Table.{Table}
+use Rattle.table.specs.declared.Answer.{Answer}
+use Rattle.table.specs.declared.Answer.the-variants.{Accepted, Short, Count, Long, Padding, Period, Window, Kind}
+use Rattle.table.specs.Tables.{taskAt}
+use Rattle.table.specs.Answers.{numberOf, placeOf}
+use Rattle.table.specs.Kinds.{nestingAnswer}
 use Rattle.table.specs.Reading.{tableIn}
 use Rattle.table.specs.Writing.{fileOf}
 use Rattle.table.specs.Moving.{moveReply}
 use Rattle.schedule.specs.declared.Run.{Run}
 use Rattle.schedule.specs.Jobs.{jobAt}
 use Rattle.plans.specs.Planning.{listsFor, planReply, planMarks, planRuns}
-use Rattle.samples.specs.Samples.{Sample, PlanSample, clock, plan, window, move, text, FileHolds, PlanSays, Says, samples}
-use Rattle.samples.specs.SampleTests.{sameNumbers, sameRuns, sameTable, planParts, writtenParts, fileMet, planMet, sampleMet}
+use Rattle.samples.specs.Samples.{Sample, PlanSample, clock, plan, window, move, text, nesting, FileHolds, PlanSays, Says, samples}
+use Rattle.samples.specs.SampleTests.{sameNumbers, sameRuns, sameTable, planParts, writtenParts, fileMet, kindMet, planMet, sampleMet}
 use Rattle.samples.proofs.SameLaws.{pass-all, both, three, numbers-same, runs-same, table-same, planned-same, written-same}
 use Rattle.samples.proofs.Computed.{all-pass}
 
@@ -44,6 +50,24 @@ plan-says s e =
     (plan-holds (s .reply .number) (planMarks (s .table)) (s .marks) (planRuns (s .table)) (s .runs))
     e
 
+-- an answer of number 7 names a place and nothing else
+seven-place : (answer : Answer) → numberOf answer ≡ 7 → answer ≡ Kind (placeOf answer)
+seven-place Accepted e = absurd (omega arith)
+seven-place (Short length) e = absurd (omega arith)
+seven-place Count e = absurd (omega arith)
+seven-place (Long needed) e = absurd (omega arith)
+seven-place Padding e = absurd (omega arith)
+seven-place Period e = absurd (omega arith)
+seven-place (Window position) e = absurd (omega arith)
+seven-place (Kind position) e = refl
+
+-- what the test of a 7 says
+kind-holds : (answer : Answer) (place : ℕ) → kindMet answer place ≡ true → answer ≡ Kind place
+unfolding kindMet
+kind-holds answer place e =
+    let z = both (eqb (numberOf answer) 7) (eqb (placeOf answer) place) (eqb-true _ _) (eqb-true _ _) e in
+    seven-place answer (z .0) ∙ ap {B = Answer} (λ (k : ℕ). Kind k) (z .1)
+
 -- what the test of any sample says
 sample-says : (s : Sample) → sampleMet s ≡ true → Says s
 unfolding sampleMet
@@ -59,7 +83,9 @@ sample-says (move s) e =
     (written-same reply (s .reply))
     e
 sample-says (text s) e = numbers-same _ _ e
+sample-says (nesting s) e = kind-holds (nestingAnswer (taskAt (s .table)) (s .table .count)) (s .place) e
 
--- P1 to P12: what document 01 says of the sample flights holds of the definitions.
+-- The sample flights: what document 01 says of P1 to P12, with P9 as request 1 of document 02 has it, and what the rows of request 1 say, holds of the
+-- definitions.
 pub flight-samples : All Says samples
 flight-samples = pass-all Says sampleMet samples sample-says (all-pass .0)

@@ -1,8 +1,8 @@
--- The refusals of document 01, as one table of calls and their whole replies: every number with its place, the order among the numbers, and calls at a
--- limit that are not refused.
+-- The refusals of document 01, with 7 and 8 as request 1 of document 02 has them, as one table of 98 calls and their whole replies: every number with
+-- its place, the order among the numbers, calls at a limit that are not refused, and calls on similar tables, which are not refused either.
 use Prim.Native.Nat.{ℕ, _-_}
 use mathlib.Core.Path.{_≡_}
-use mathlib.Core.Bool.{false}
+use mathlib.Core.Bool.{true, false}
 use mathlib.Core.List.{List, [], _∷_, _++_}
 use lib.ListN.{length, replicate, take}
 use lib.IntN.{ℤ, pos, negsuc}
@@ -18,10 +18,10 @@ use Rattle.schedule.specs.declared.Busy.{Busy}
 use Rattle.schedule.specs.Judging.{judged, judgeDeclined, judgeSays}
 use Rattle.schedule.specs.BusyCount.{busyReply}
 use Rattle.plans.specs.declared.Planned.{Planned}
-use Rattle.plans.specs.Planning.{LentLists, lent, planDeclined, planReply}
+use Rattle.plans.specs.Planning.{LentLists, lent, planDeclined, planReply, planMade}
 use Rattle.printed_plan.specs.Printing.{printed}
 use Rattle.samples.specs.Inputs.{task, table, textOf}
-use Rattle.samples.specs.Samples.{p4File, p8File, p8Marks}
+use Rattle.samples.specs.Samples.{p4File, p8File, p8Marks, neitherTable, tieFile, lateFile}
 
 -- a call, with what is given to it and its whole reply
 pub data Call : Type 0 where
@@ -78,13 +78,24 @@ lists marks starts ends tasks = lent (replicate marks 0) (replicate starts 0) (r
 abbrev pub longFile : List ℕ
 longFile = p4File ++ 0 ∷ []
 
--- three tasks: task 1 is not nested with task 0, and task 2 is reversed
-abbrev pub crossedThenReversed : Table
-crossedThenReversed = table 1 1 (task 0 5 0 0 ∷ task 3 9 0 0 ∷ task 8 7 0 0 ∷ [])
+-- three tasks, windows 0 to 5, 3 to 9 and 4 to 6: cut after task 2 the table is of neither kind; by document 01 alone the place would be 1
+abbrev pub neitherFile : List ℕ
+neitherFile = fileOf neitherTable
 
--- three tasks: task 2 is nested with task 1, the one before it, and not with task 0
+-- the same windows, and one after them that is reversed
+abbrev pub neitherThenReversed : Table
+neitherThenReversed = table 1 1 (task 0 5 0 0 ∷ task 3 9 0 0 ∷ task 4 6 0 0 ∷ task 8 7 0 0 ∷ [])
+
+-- three tasks: task 2 is nested with task 1, the one before it, and not with task 0; tasks 0 and 1 are not similar
 abbrev pub crossedAt2 : Table
 crossedAt2 = table 1 1 (task 2 6 0 0 ∷ task 0 9 0 0 ∷ task 5 8 0 0 ∷ [])
+
+-- three tasks whose windows are similar, and no two of them nested
+abbrev pub similarTable : Table
+similarTable = table 1 1 (task 0 5 0 0 ∷ task 3 9 0 0 ∷ task 4 10 0 0 ∷ [])
+
+abbrev pub similarFile : List ℕ
+similarFile = fileOf similarTable
 
 -- two tasks: task 1 has the lower release frame and the higher deadline frame
 abbrev pub twoTasks : List ℕ
@@ -97,6 +108,14 @@ outermostExceeds = fileOf (table 1 1 (task 2 8 2 0 ∷ task 0 10 7 0 ∷ task 4 
 -- three tasks of which two exceed their windows: task 1, the first in nest order, and task 0, the last
 abbrev pub innermostExceeds : List ℕ
 innermostExceeds = fileOf (table 1 1 (task 0 10 9 0 ∷ task 4 6 3 0 ∷ task 2 8 1 0 ∷ []))
+
+-- three tasks in a similar table, task 2 the first in similar order, task 0 the last: its mandatory ticks, after those of the others, end late
+abbrev pub lastLate : List ℕ
+lastLate = fileOf (table 1 1 (task 2 5 2 0 ∷ task 1 4 2 0 ∷ task 0 3 2 0 ∷ []))
+
+-- two tasks in a similar table, both longer than their windows: task 1 is the first in similar order
+abbrev pub bothLate : List ℕ
+bothLate = fileOf (table 1 1 (task 3 6 4 0 ∷ task 0 3 4 0 ∷ []))
 
 -- Reading: 1 for under 4 bytes, then 2, 1, 3, 4, 5, 6, 7.
 abbrev pub readingRows : List Call
@@ -133,14 +152,20 @@ readingRows =
     -- 6, the position: release above deadline in tasks 1 and 2, release equal to deadline
     ∷ unread (fileOf (table 1 1 (task 0 9 0 0 ∷ task 3 2 0 0 ∷ task 5 4 0 0 ∷ []))) 6 1
     ∷ unread (fileOf (table 1 1 (task 0 9 0 0 ∷ task 3 3 0 0 ∷ []))) 6 1
-    -- 6 before 7
-    ∷ unread (fileOf crossedThenReversed) 6 2
-    -- 7, the position: the lowest of tasks 1 and 2, and task 2 alone
-    ∷ unread (fileOf (table 1 1 (task 0 5 0 0 ∷ task 3 9 0 0 ∷ task 4 10 0 0 ∷ []))) 7 1
+    -- 6 before 7, which has the lower place
+    ∷ unread (fileOf neitherThenReversed) 6 3
+    -- 7, the lowest position such that the table cut after it is of neither kind: 2 of 2 and 3, and 2 alone. What stands before it is similar and not
+    -- nested, so document 01's place would be 1
+    ∷ unread (fileOf (table 1 1 (task 0 5 0 0 ∷ task 3 9 0 0 ∷ task 4 6 0 0 ∷ task 5 10 0 0 ∷ []))) 7 2
+    ∷ unread neitherFile 7 2
+    -- what stands before it is nested and not similar, and it is of both kinds
     ∷ unread (fileOf crossedAt2) 7 2
+    ∷ unread (fileOf (table 1 1 (task 0 4 0 0 ∷ task 0 6 0 0 ∷ task 3 5 0 0 ∷ []))) 7 2
+    -- similar and not nested: accepted
+    ∷ reads similarFile 0 0 similarTable
     ∷ []
 
--- Writing: 2, 5, 12, 6, 7, 9. A file of one task has 12 bytes, of two 20, of three 28, of 64 tasks 500.
+-- Writing: 2, 5, 12, 6, 7, 9. A file of one task has 12 bytes, of two 20, of three 28, of four 35, of 64 tasks 500.
 abbrev pub writingRows : List Call
 writingRows =
     -- 2: count 0, count 65
@@ -166,11 +191,15 @@ writingRows =
     ∷ writes (table 1 1 (task 9 0 0 0 ∷ task 0 9 16_384 0 ∷ [])) 20 (declined 12 1)
     -- 6, the position
     ∷ writes (table 1 1 (task 0 9 0 0 ∷ task 3 3 0 0 ∷ [])) 20 (declined 6 1)
-    -- 6 before 7
-    ∷ writes crossedThenReversed 28 (declined 6 2)
+    -- 6 before 7, which has the lower place
+    ∷ writes neitherThenReversed 35 (declined 6 3)
     -- 7, the position, also into a list too short: 7 before 9
     ∷ writes crossedAt2 28 (declined 7 2)
     ∷ writes crossedAt2 0 (declined 7 2)
+    -- 7 where document 01's place would be 1
+    ∷ writes neitherTable 28 (declined 7 2)
+    -- similar and not nested: accepted
+    ∷ writes similarTable 28 (wrote 28)
     -- 9: a byte too short
     ∷ writes (table 1 1 (task 0 1 0 0 ∷ [])) 11 (declined 9 0)
     ∷ []
@@ -180,6 +209,8 @@ abbrev pub movingRows : List Call
 movingRows =
     -- reading's refusal with its place, before 10 and 9
     moves longFile (negsuc 0) 0 (declined 3 12)
+    -- 7 before 10 and 9, where document 01's place would be 1
+    ∷ moves neitherFile (negsuc 0) 0 (declined 7 2)
     -- 10, the position: below 0, where task 1 alone is moved there, and where both are
     ∷ moves twoTasks (negsuc 1) 20 (declined 10 1)
     ∷ moves twoTasks (negsuc 2) 20 (declined 10 0)
@@ -191,24 +222,35 @@ movingRows =
     -- 10 before 9, and 9: a byte too short
     ∷ moves p8File (negsuc 0) 0 (declined 10 0)
     ∷ moves p8File (pos 1) 27 (declined 9 0)
+    -- a similar table is moved
+    ∷ moves similarFile (pos 1) 28 (wrote 28)
     ∷ []
 
--- Planning: reading, 8, 9. Three tasks need 3 marks and 5 runs.
+-- Planning: reading, 8, 9. Two tasks need 2 marks and 3 runs, three tasks 3 marks and 5 runs.
 abbrev pub planningRows : List Call
 planningRows =
-    -- reading's refusal with its place, before 9, and before 8: task 0 exceeds its window, and task 1 is not nested with it
+    -- reading's refusal with its place, before 9, and before 8: task 0 exceeds its window, and the table is of neither kind
     plans longFile (lists 0 0 0 0) (planDeclined 3 12)
-    ∷ plans (fileOf (table 1 1 (task 0 5 6 0 ∷ task 3 9 0 0 ∷ []))) (lists 2 3 3 3) (planDeclined 7 1)
+    ∷ plans (fileOf (table 1 1 (task 0 5 6 0 ∷ task 3 9 0 0 ∷ task 4 6 0 0 ∷ []))) (lists 3 5 5 5) (planDeclined 7 2)
+    -- without its last task the table is similar: 8
+    ∷ plans (fileOf (table 1 1 (task 0 5 6 0 ∷ task 3 9 0 0 ∷ []))) (lists 2 3 3 3) (planDeclined 8 0)
     -- 8, the position of the first task in nest order that exceeds
     ∷ plans outermostExceeds (lists 3 5 5 5) (planDeclined 8 1)
     ∷ plans innermostExceeds (lists 3 5 5 5) (planDeclined 8 1)
-    -- 8 before 9
+    -- in a similar table the position of the first task in similar order that can't be met: it is the last there, and it is the first of two
+    ∷ plans lastLate (lists 3 5 5 5) (planDeclined 8 0)
+    ∷ plans bothLate (lists 2 3 3 3) (planDeclined 8 1)
+    -- 8 before 9, in a nested and in a similar table
     ∷ plans outermostExceeds (lists 0 0 0 0) (planDeclined 8 1)
+    ∷ plans lateFile (lists 0 0 0 0) (planDeclined 8 2)
     -- 9: the marks and each column of the runs one short
     ∷ plans p8File (lists 2 5 5 5) (planDeclined 9 0)
     ∷ plans p8File (lists 3 4 5 5) (planDeclined 9 0)
     ∷ plans p8File (lists 3 5 4 5) (planDeclined 9 0)
     ∷ plans p8File (lists 3 5 5 4) (planDeclined 9 0)
+    -- 9 in a similar table too, where 2n − 2 runs would do for this plan, and with 2n − 1 it is planned
+    ∷ plans tieFile (lists 2 2 2 2) (planDeclined 9 0)
+    ∷ plans tieFile (lists 2 3 3 3) (planMade 1 1 2)
     -- the line printed of a refusal
     ∷ prints outermostExceeds (textOf ("REFUSED 8 1" ∷ []))
     ∷ prints longFile (textOf ("REFUSED 3 12" ∷ []))
@@ -219,6 +261,8 @@ abbrev pub judgingRows : List Call
 judgingRows =
     -- reading's refusal with its place
     judges longFile [] [] [] [] (judgeDeclined 3 12)
+    -- 7 before 11, where document 01's place would be 1
+    ∷ judges neitherFile [] [] [] [] (judgeDeclined 7 2)
     -- 11, the task count: a keep list too short and one too long, whatever its marks
     ∷ judges p8File (2 ∷ 1 ∷ []) [] [] [] (judgeDeclined 11 3)
     ∷ judges p8File (1 ∷ 2 ∷ 1 ∷ 1 ∷ []) [] [] [] (judgeDeclined 11 3)
@@ -231,6 +275,12 @@ judgingRows =
     ∷ judges p8File p8Marks (2 ∷ []) (4 ∷ []) [] (judgeDeclined 13 0)
     ∷ judges p8File p8Marks (2 ∷ []) [] (0 ∷ []) (judgeDeclined 13 0)
     ∷ judges p8File p8Marks (replicate 4_097 0) (replicate 4_097 0) (replicate 4_097 0) (judgeDeclined 13 0)
+    -- a similar table, windows 0 to 4 and 1 to 5: yes with its counts for the planner's plan, and for another that keeps the other part and runs late
+    ∷ judges tieFile (0 ∷ 1 ∷ []) (0 ∷ 1 ∷ []) (1 ∷ 5 ∷ []) (0 ∷ 1 ∷ []) (judgeSays true 1 1)
+    ∷ judges tieFile (1 ∷ 0 ∷ []) (2 ∷ 4 ∷ []) (4 ∷ 5 ∷ []) (0 ∷ 1 ∷ []) (judgeSays true 1 1)
+    -- no for a run outside its window: task 1 before its release, task 0 after its deadline
+    ∷ judges tieFile (1 ∷ 0 ∷ []) (0 ∷ 1 ∷ []) (1 ∷ 3 ∷ []) (1 ∷ 0 ∷ []) (judgeSays false 0 0)
+    ∷ judges tieFile (1 ∷ 0 ∷ []) (1 ∷ 3 ∷ []) (2 ∷ 5 ∷ []) (1 ∷ 0 ∷ []) (judgeSays false 0 0)
     ∷ []
 
 -- Busy count: 13 only.

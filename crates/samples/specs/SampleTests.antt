@@ -9,8 +9,10 @@ use Rattle.clock.specs.Clock.{releaseTick, deadlineTick}
 use Rattle.table.specs.declared.Task.{Task}
 use Rattle.table.specs.declared.Table.{Table}
 use Rattle.table.specs.declared.Written.{Written}
-use Rattle.table.specs.Tables.{taskRow}
+use Rattle.table.specs.declared.Answer.{Answer}
+use Rattle.table.specs.Tables.{taskAt, taskRow}
 use Rattle.table.specs.Answers.{numberOf, placeOf}
+use Rattle.table.specs.Kinds.{nestingAnswer}
 use Rattle.table.specs.Reading.{tableIn, reading}
 use Rattle.table.specs.Writing.{fileOf, writeReply}
 use Rattle.table.specs.Moving.{moveReply}
@@ -25,7 +27,7 @@ use Rattle.schedule.specs.BusyCount.{busyReply}
 use Rattle.plans.specs.declared.Planned.{Planned}
 use Rattle.plans.specs.Planning.{listsFor, planReply, planMarks, planRuns}
 use Rattle.printed_plan.specs.Printing.{printed}
-use Rattle.samples.specs.Samples.{Sample, PlanSample, clock, plan, window, move, text}
+use Rattle.samples.specs.Samples.{Sample, PlanSample, clock, plan, window, move, text, nesting}
 use Rattle.samples.specs.Refusals.{Call, reads, writes, moves, plans, judges, busyCounts, prints}
 
 -- every row of a list passes
@@ -81,6 +83,10 @@ planMet s =
     (and (sameNumbers (planParts (planReply (s .file) (listsFor (s .table .count)))) (planParts (s .reply)))
     (pick (eqb (s .reply .number) 0) (and (sameNumbers (planMarks (s .table)) (s .marks)) (sameRuns (planRuns (s .table)) (s .runs))) true))
 
+-- an answer is 7 with this place
+unfoldable pub kindMet : Answer → ℕ → Bool
+kindMet answer place = and (eqb (numberOf answer) 7) (eqb (placeOf answer) place)
+
 unfoldable pub sampleMet : Sample → Bool
 sampleMet (clock s) = and (eqb (releaseTick (s .p) (s .q) (s .frame)) (s .release)) (eqb (deadlineTick (s .p) (s .q) (s .frame)) (s .deadline))
 sampleMet (plan s) = planMet s
@@ -89,6 +95,7 @@ sampleMet (window s) =
 sampleMet (move s) =
     and (fileMet (s .file) (s .table)) (sameNumbers (writtenParts (moveReply (s .file) (s .shift) (length (s .file)))) (writtenParts (s .reply)))
 sampleMet (text s) = sameNumbers (printed (s .file)) (s .text)
+sampleMet (nesting s) = kindMet (nestingAnswer (taskAt (s .table)) (s .table .count)) (s .place)
 
 -- the calls
 unfoldable pub callMet : Call → Bool

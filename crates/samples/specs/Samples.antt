@@ -1,5 +1,7 @@
--- The sample flights P1 to P12 of document 01, as one table: frames and their ticks, tables with their files and plans, a table file and its moving,
--- and the printed plan of the three tasks.
+-- The sample flights, as one table of 23 rows: frames and their ticks, tables with their files and plans, the ticks of a window, a table file and its
+-- moving, printed plans, and document 01's place of 7.
+-- The first 14 rows are P1 to P12 of document 01; P9's windows are accepted since request 1 of document 02, and its lengths, which document 01 leaves
+-- open, are chosen here. The 9 rows after them are added here, for what request 1 says of similar tables.
 use Prim.Native.Nat.{ℕ}
 use mathlib.Core.Path.{_≡_}
 use mathlib.Core.List.{List, [], _∷_, _++_, map}
@@ -9,7 +11,10 @@ use Rattle.clock.specs.Clock.{releaseTick, deadlineTick}
 use Rattle.clock.specs.ClockSamples.{ClockSample, clockSamples}
 use Rattle.table.specs.declared.Table.{Table}
 use Rattle.table.specs.declared.Written.{Written}
+use Rattle.table.specs.declared.Answer.the-variants.{Kind}
+use Rattle.table.specs.Tables.{taskAt}
 use Rattle.table.specs.Answers.{declined}
+use Rattle.table.specs.Kinds.{nestingAnswer}
 use Rattle.table.specs.Reading.{tableIn}
 use Rattle.table.specs.Writing.{fileOf}
 use Rattle.table.specs.Moving.{moveReply}
@@ -17,7 +22,7 @@ use Rattle.schedule.specs.declared.Run.{Run}
 use Rattle.schedule.specs.Jobs.{jobAt}
 use Rattle.schedule.specs.Runs.{runOf as run}
 use Rattle.plans.specs.declared.Planned.{Planned}
-use Rattle.plans.specs.Planning.{planDeclined, listsFor, planReply, planMarks, planRuns}
+use Rattle.plans.specs.Planning.{planDeclined, planMade, listsFor, planReply, planMarks, planRuns}
 use Rattle.printed_plan.specs.Printing.{printed}
 use Rattle.samples.specs.Inputs.{task, table, textOf}
 
@@ -48,23 +53,23 @@ pub record PrintSample : Type 0 where
   pub file : List ℕ
   pub text : List ℕ
 
+-- a table, and the place of the 7 that document 01's own rule sends: it stays the rule of readers and planners of nested tables alone
+pub record NestingSample : Type 0 where
+  pub table : Table
+  pub place : ℕ
+
 pub data Sample : Type 0 where
   clock : ClockSample → Sample
   plan : PlanSample → Sample
   window : WindowSample → Sample
   move : MoveSample → Sample
   text : PrintSample → Sample
+  nesting : NestingSample → Sample
 
 -- a table and its file with the plan expected: kept, discarded, marks, runs
 abbrev pub planned : Table → List ℕ → ℕ → ℕ → List ℕ → List Run → Sample
 planned t file kept discarded marks runs =
-    plan record {
-      table = t;
-      file = file;
-      reply = record { number = 0; place = 0; kept = kept; discarded = discarded; runs = length runs };
-      marks = marks;
-      runs = runs;
-    }
+    plan record { table = t; file = file; reply = planMade kept discarded (length runs); marks = marks; runs = runs }
 
 -- a table and its file that planning refuses
 abbrev pub refused : Table → List ℕ → ℕ → ℕ → Sample
@@ -106,7 +111,34 @@ p8Text =
 abbrev pub p11Table : Table
 p11Table = table 5 4 (task 1 2 1 0 ∷ [])
 
--- P1 to P12, one after another
+-- Tables for the rows of request 1, p = q = 1.
+
+-- windows 0 to 5 and 3 to 9 are similar and not nested, 3 to 9 and 4 to 6 are nested and not similar: cut after task 2 the table is of neither kind
+abbrev pub neitherTable : Table
+neitherTable = table 1 1 (task 0 5 1 1 ∷ task 3 9 1 1 ∷ task 4 6 1 1 ∷ [])
+
+-- windows 0 to 4 and 1 to 5, each with an optional part, the later one longer: there is room for one of the two
+abbrev pub tieTable : Table
+tieTable = table 1 1 (task 0 4 1 1 ∷ task 1 5 1 3 ∷ [])
+
+abbrev pub tieFile : List ℕ
+tieFile =
+    0x04 ∷ 0x00 ∷ 0x20 ∷ 0x02 ∷ 0x00 ∷ 0x00 ∷ 0x00 ∷ 0x02 ∷ 0x00 ∷ 0x02 ∷ 0x00 ∷ 0x08 ∷ 0x00 ∷ 0x04 ∷ 0x00 ∷ 0x0A ∷ 0x00 ∷ 0x08 ∷ 0x00 ∷ 0x60 ∷ []
+
+-- what is printed of its plan
+abbrev pub tieText : List ℕ
+tieText = textOf ("PLAN 2 1 1" ∷ "DROP 0" ∷ "RUN 0 1 0" ∷ "RUN 1 5 1" ∷ [])
+
+-- windows 0 to 3, 1 to 4 and 2 to 5, each with 2 mandatory ticks: 6 ticks in 5
+abbrev pub lateTable : Table
+lateTable = table 1 1 (task 0 3 2 0 ∷ task 1 4 2 1 ∷ task 2 5 2 0 ∷ [])
+
+abbrev pub lateFile : List ℕ
+lateFile =
+    0x06 ∷ 0x00 ∷ 0x20 ∷ 0x02 ∷ 0x00 ∷ 0x00 ∷ 0x00 ∷ 0x01 ∷ 0x80 ∷ 0x04 ∷ 0x00 ∷ 0x00 ∷ 0x00 ∷ 0x04 ∷ 0x00 ∷ 0x08 ∷ 0x00 ∷ 0x10 ∷ 0x00 ∷ 0x20 ∷ 0x00 ∷ 0x20
+    ∷ 0x00 ∷ 0x28 ∷ 0x00 ∷ 0x40 ∷ 0x00 ∷ 0x00 ∷ []
+
+-- P1 to P12, one after another, and then the rows of request 1
 abbrev pub samples : List Sample
 samples =
     -- P1, P2 and P3
@@ -128,10 +160,10 @@ samples =
     -- P8: the three tasks, and their whole printed plan
     ∷ planned p8Table p8File 2 1 p8Marks (run 2 4 0 ∷ run 4 6 2 ∷ run 6 7 0 ∷ run 7 8 1 ∷ run 8 10 0 ∷ [])
     ∷ text record { file = p8File; text = p8Text }
-    -- P9: windows 0 to 5 and 5 to 9; refusal 7, place 1
-    ∷ refused (table 1 1 (task 0 5 0 0 ∷ task 5 9 0 0 ∷ []))
-    (0x04 ∷ 0x00 ∷ 0x20 ∷ 0x02 ∷ 0x00 ∷ 0x00 ∷ 0x00 ∷ 0x02 ∷ 0x80 ∷ 0x00 ∷ 0x00 ∷ 0x00 ∷ 0x00 ∷ 0x14 ∷ 0x00 ∷ 0x12 ∷ 0x00 ∷ 0x00 ∷ 0x00 ∷ 0x00 ∷ [])
-    7 1
+    -- P9: windows 0 to 5 and 5 to 9, accepted as similar; with 2 and 3, and 1 and 2, chosen here: both parts kept, each task runs as early as it can
+    ∷ planned (table 1 1 (task 0 5 2 3 ∷ task 5 9 1 2 ∷ []))
+    (0x04 ∷ 0x00 ∷ 0x20 ∷ 0x02 ∷ 0x00 ∷ 0x00 ∷ 0x00 ∷ 0x02 ∷ 0x80 ∷ 0x04 ∷ 0x00 ∷ 0x18 ∷ 0x00 ∷ 0x14 ∷ 0x00 ∷ 0x12 ∷ 0x00 ∷ 0x08 ∷ 0x00 ∷ 0x40 ∷ [])
+    2 0 (1 ∷ 1 ∷ []) (run 0 5 0 ∷ run 5 8 1 ∷ [])
     -- P10: two windows 0 to 4, each 0 and 3, p = q = 1; task 0 dropped, run 1 to 4 of task 1
     ∷ planned (table 1 1 (task 0 4 0 3 ∷ task 0 4 0 3 ∷ []))
     (0x04 ∷ 0x00 ∷ 0x20 ∷ 0x02 ∷ 0x00 ∷ 0x00 ∷ 0x00 ∷ 0x02 ∷ 0x00 ∷ 0x00 ∷ 0x00 ∷ 0x18 ∷ 0x00 ∷ 0x00 ∷ 0x00 ∷ 0x08 ∷ 0x00 ∷ 0x00 ∷ 0x00 ∷ 0x60 ∷ [])
@@ -141,6 +173,38 @@ samples =
     ∷ refused p11Table (0x02 ∷ 0x00 ∷ 0xA0 ∷ 0x08 ∷ 0x00 ∷ 0x01 ∷ 0x00 ∷ 0x01 ∷ 0x00 ∷ 0x02 ∷ 0x00 ∷ 0x00 ∷ []) 8 0
     -- P12: P8's table moved by −1; refusal 10, place 0
     ∷ move record { table = p8Table; file = p8File; shift = negsuc 0; reply = declined 10 0 }
+    -- The rows of request 1.
+    -- 7 with its new place: cut after task 1 the table is similar, cut after task 2 it is of neither kind; refusal 7, place 2
+    ∷ refused neitherTable
+    (0x06 ∷ 0x00 ∷ 0x20 ∷ 0x02 ∷ 0x00 ∷ 0x00 ∷ 0x00 ∷ 0x02 ∷ 0x80 ∷ 0x02 ∷ 0x00 ∷ 0x08 ∷ 0x00 ∷ 0x0C ∷ 0x00 ∷ 0x12 ∷ 0x00 ∷ 0x08 ∷ 0x00 ∷ 0x20 ∷ 0x00 ∷ 0x40
+    ∷ 0x00 ∷ 0x30 ∷ 0x00 ∷ 0x20 ∷ 0x00 ∷ 0x80 ∷ [])
+    7 2
+    -- document 01's own rule, which stays for nested tables alone, gives place 1: task 1 is not nested with task 0
+    ∷ nesting record { table = neitherTable; place = 1 }
+    -- a tie: task 1 keeps its 3 ticks, since it stands last; the least total of kept ticks would keep the part of task 0. And the whole printed plan.
+    ∷ planned tieTable tieFile 1 1 (0 ∷ 1 ∷ []) (run 0 1 0 ∷ run 1 5 1 ∷ [])
+    ∷ text record { file = tieFile; text = tieText }
+    -- 'at the last task in that order where two differ it keeps': windows 0 to 6 and 3 to 9, equal lengths, one tick too much for both parts; tick 2 stays
+    -- free, since task 1 is released at 3
+    ∷ planned (table 1 1 (task 0 6 2 3 ∷ task 3 9 2 3 ∷ []))
+    (0x04 ∷ 0x00 ∷ 0x20 ∷ 0x02 ∷ 0x00 ∷ 0x00 ∷ 0x00 ∷ 0x03 ∷ 0x00 ∷ 0x04 ∷ 0x00 ∷ 0x18 ∷ 0x00 ∷ 0x0C ∷ 0x00 ∷ 0x12 ∷ 0x00 ∷ 0x10 ∷ 0x00 ∷ 0x60 ∷ [])
+    1 1 (0 ∷ 1 ∷ []) (run 0 2 0 ∷ run 3 8 1 ∷ [])
+    -- a task without work in a full table: the others take every tick of its window; it gets no run, its mark is 1 and it enters neither count
+    ∷ planned (table 1 1 (task 0 2 2 0 ∷ task 1 3 0 0 ∷ task 2 4 2 0 ∷ []))
+    (0x06 ∷ 0x00 ∷ 0x20 ∷ 0x02 ∷ 0x00 ∷ 0x00 ∷ 0x00 ∷ 0x01 ∷ 0x00 ∷ 0x04 ∷ 0x00 ∷ 0x00 ∷ 0x00 ∷ 0x04 ∷ 0x00 ∷ 0x06 ∷ 0x00 ∷ 0x00 ∷ 0x00 ∷ 0x00 ∷ 0x00 ∷ 0x20
+    ∷ 0x00 ∷ 0x20 ∷ 0x00 ∷ 0x40 ∷ 0x00 ∷ 0x00 ∷ [])
+    0 0 (1 ∷ 1 ∷ 1 ∷ []) (run 0 2 0 ∷ run 2 4 2 ∷ [])
+    -- 8 in a similar table: tasks 0 and 1 run 0 to 4, and task 2 would end at 6, after its deadline
+    ∷ refused lateTable lateFile 8 2
+    -- positions and similar order told apart: task 1 is released first, so task 0 stands last and keeps
+    ∷ planned (table 1 1 (task 3 9 2 3 ∷ task 0 6 2 3 ∷ []))
+    (0x04 ∷ 0x00 ∷ 0x20 ∷ 0x02 ∷ 0x00 ∷ 0x03 ∷ 0x00 ∷ 0x04 ∷ 0x80 ∷ 0x04 ∷ 0x00 ∷ 0x18 ∷ 0x00 ∷ 0x00 ∷ 0x00 ∷ 0x0C ∷ 0x00 ∷ 0x10 ∷ 0x00 ∷ 0x60 ∷ [])
+    1 1 (1 ∷ 0 ∷ []) (run 0 2 1 ∷ run 3 8 0 ∷ [])
+    -- a table of both kinds, windows 0 to 4 and 0 to 6, is planned as nested: the least total is kept, in the latest ticks. As similar it would keep the
+    -- part of task 1, with runs 0 to 1 and 1 to 5
+    ∷ planned (table 1 1 (task 0 4 1 2 ∷ task 0 6 1 3 ∷ []))
+    (0x04 ∷ 0x00 ∷ 0x20 ∷ 0x02 ∷ 0x00 ∷ 0x00 ∷ 0x00 ∷ 0x02 ∷ 0x00 ∷ 0x02 ∷ 0x00 ∷ 0x10 ∷ 0x00 ∷ 0x00 ∷ 0x00 ∷ 0x0C ∷ 0x00 ∷ 0x08 ∷ 0x00 ∷ 0x60 ∷ [])
+    1 1 (1 ∷ 0 ∷ []) (run 1 4 0 ∷ run 5 6 1 ∷ [])
     ∷ []
 
 -- What a sample says of the definitions.
@@ -162,3 +226,4 @@ Says (plan s) = PlanSays s
 Says (window s) = (jobAt (s .table) (s .position) .release ≡ s .release) × (jobAt (s .table) (s .position) .deadline ≡ s .deadline)
 Says (move s) = FileHolds (s .file) (s .table) × (moveReply (s .file) (s .shift) (length (s .file)) ≡ s .reply)
 Says (text s) = printed (s .file) ≡ s .text
+Says (nesting s) = nestingAnswer (taskAt (s .table)) (s .table .count) ≡ Kind (s .place)

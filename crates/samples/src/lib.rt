@@ -1,1 +1,2 @@
-// The sample flights P1 to P12 and the refusals of document 01, each as one table and one theorem about the definitions. There is no code here.
+// The sample flights, P1 to P12 of document 01 and those of request 1, and the refusals, each as one table and one theorem about the definitions.
+// There is no code here.

@@ -1,23 +1,52 @@
 // Small tables: every table of a family by its index.
+use std::num::wrapping_add_u32;
 use table::NO_TASK;
 use table::Task;
 
 // The most tasks of a small table.
 pub const PLACES: usize = 4;
 
-// All tables of `count` tasks with a period, in which a task has one of some windows, mandatory ticks 0 to 1, and optional ticks. The windows are all six
-// within frames 0 to 3, with 0 to 3 optional ticks; or, in a chain, three windows one in the other, with 0 to 2 optional ticks. The period is 1/1, 3/2 or
-// 5/4, which are the rows 0 to 2 of the ticks below.
+// All tables of `count` tasks with a period, in which a task has one of some windows, mandatory ticks 0 to 1, and optional ticks from 0 to `optional`, 3
+// at most. The windows are those below from place `first` on, and `more` after it, 5 at most. The period is 1/1, 3/2 or 5/4, which are the rows 0 to 2 of the
+// ticks below.
 pub struct Family {
     pub count: usize,
     pub p: u32,
     pub q: u32,
     pub row: usize,
-    pub chain: bool,
+    pub first: u32,
+    pub more: u32,
+    pub optional: u32,
 }
 
-// The windows in frames, release and deadline in turn: six within frames 0 to 3, and three one in the other.
-const WINDOWS: [u32; 18] = [0, 1, 0, 2, 0, 3, 1, 2, 1, 3, 2, 3, 0, 6, 1, 5, 2, 4];
+// The windows in frames, release and deadline in turn: at places 0 to 5 all six within frames 0 to 3, at 6 to 8 three one in the other, and at 9 to 11 three
+// of which each begins and ends before the next.
+const WINDOWS: [u32; 24] = [
+    0,
+    1,
+    0,
+    2,
+    0,
+    3,
+    1,
+    2,
+    1,
+    3,
+    2,
+    3,
+    0,
+    6,
+    1,
+    5,
+    2,
+    4,
+    0,
+    3,
+    1,
+    5,
+    3,
+    6,
+];
 
 // The release ticks of the frames 0 to 6 with the period 1/1, and of the frames 0 to 3 with 3/2 and with 5/4, eight places each.
 const RELEASES: [u32; 24] = [
@@ -85,30 +114,40 @@ pub fn deadline_tick(row: usize, frame: u32) -> u32 {
     DEADLINES[row % 3 * 8 + (frame % 8) as usize]
 }
 
+// A tick is in a task's window.
+pub fn has_tick(task: Task, row: usize, tick: u32) -> bool {
+    release_tick(row, task.release) <= tick && tick < deadline_tick(row, task.deadline)
+}
+
 // A task with the window at a place of the windows.
-fn task(window: usize, mandatory: u32, optional: u32) -> Task {
+fn task(window: u32, mandatory: u32, optional: u32) -> Task {
+    let place = (window % 12) as usize * 2;
     Task {
-        release: WINDOWS[window % 9 * 2],
-        deadline: WINDOWS[window % 9 * 2 + 1],
+        release: WINDOWS[place],
+        deadline: WINDOWS[place + 1],
         mandatory,
         optional,
     }
 }
 
-// The tasks of the table at an index, which has a digit for each task, in the base 48 or, in a chain, 18; the places beyond the count are 0.
+// The windows of a family are within frames 0 to 3: it has so few ticks that all runnings of its tables can be tried.
+pub fn has_few_ticks(family: Family) -> bool {
+    family.first == 0
+}
+
+// The tasks of the table at an index, which has a digit for each task: its window, its mandatory ticks and its optional ticks. The places beyond the count
+// are 0.
 pub fn tasks_of(family: Family, index: u32) -> [Task; PLACES] {
+    let windows = family.more % 6 + 1;
+    let lengths = family.optional % 4 + 1;
     let mut tasks = [NO_TASK; PLACES];
-    let mut rest = index as usize;
+    let mut rest = index;
     let mut k: usize = 0;
     while k < PLACES {
         if k < family.count {
-            if family.chain {
-                tasks[k] = task(6 + rest / 6 % 3, (rest / 3 % 2) as u32, (rest % 3) as u32);
-                rest = rest / 18;
-            } else {
-                tasks[k] = task(rest / 8 % 6, (rest / 4 % 2) as u32, (rest % 4) as u32);
-                rest = rest / 48;
-            }
+            let window = wrapping_add_u32(family.first, rest / lengths / 2 % windows);
+            tasks[k] = task(window, rest / lengths % 2, rest % lengths);
+            rest = rest / lengths / 2 / windows;
         }
         k += 1;
     }

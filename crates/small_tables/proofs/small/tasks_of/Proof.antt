@@ -5,22 +5,34 @@ use Rattle.small_tables.proofs.small.tasks_of.Statement.{statement}
 use Rattle.small_tables.proofs.small.tasks_of.Tie as tie
 
 abbrev Inv-loop : tie.InvT-loop
-Inv-loop family index tasks₀ rest₀ k₀ tasks rest k = Unit
+Inv-loop family index windows lengths tasks₀ rest₀ k₀ tasks rest k = Unit
 
 abbrev μ-loop : tie.MeasureT-loop
-μ-loop family index tasks₀ rest₀ k₀ tasks rest k = 4 - k
+μ-loop family index windows lengths tasks₀ rest₀ k₀ tasks rest k = 4 - k
+
+add-windows : tie.Need-add-windows Inv-loop μ-loop
+add-windows c = search needs
+
+add-lengths : tie.Need-add-lengths Inv-loop μ-loop
+add-lengths c = search needs
 
 loop-holds : tie.Need-loop-holds Inv-loop μ-loop
 loop-holds c = search needs
 
-add-task : tie.Need-add-task Inv-loop μ-loop
-add-task c = search needs
+div-wrapping-add-u32 : tie.Need-div-wrapping-add-u32 Inv-loop μ-loop
+div-wrapping-add-u32 c = search needs
 
-cast-task : tie.Need-cast-task Inv-loop μ-loop
-cast-task c = search needs
+rem-wrapping-add-u32 : tie.Need-rem-wrapping-add-u32 Inv-loop μ-loop
+rem-wrapping-add-u32 c = search needs
 
-cast-task-2 : tie.Need-cast-task-2 Inv-loop μ-loop
-cast-task-2 c = search needs
+wrapping-add-u32-requires : tie.Need-wrapping-add-u32-requires Inv-loop μ-loop
+wrapping-add-u32-requires c κs = search needs
+
+div-task : tie.Need-div-task Inv-loop μ-loop
+div-task c = search needs
+
+rem-task : tie.Need-rem-task Inv-loop μ-loop
+rem-task c = search needs
 
 task-requires : tie.Need-task-requires Inv-loop μ-loop
 task-requires c κs = search needs
@@ -31,20 +43,11 @@ mul-tasks c = search needs
 array-set-from-tasks : tie.Need-array-set-from-tasks Inv-loop μ-loop
 array-set-from-tasks c = search needs
 
-cast-task-3 : tie.Need-cast-task-3 Inv-loop μ-loop
-cast-task-3 c = search needs
+div-rest : tie.Need-div-rest Inv-loop μ-loop
+div-rest c = search needs
 
-cast-task-4 : tie.Need-cast-task-4 Inv-loop μ-loop
-cast-task-4 c = search needs
-
-task-requires-2 : tie.Need-task-requires-2 Inv-loop μ-loop
-task-requires-2 c κs = search needs
-
-mul-tasks-2 : tie.Need-mul-tasks-2 Inv-loop μ-loop
-mul-tasks-2 c = search needs
-
-array-set-from-tasks-2 : tie.Need-array-set-from-tasks-2 Inv-loop μ-loop
-array-set-from-tasks-2 c = search needs
+div-rest-2 : tie.Need-div-rest-2 Inv-loop μ-loop
+div-rest-2 c = search needs
 
 add-k : tie.Need-add-k Inv-loop μ-loop
 add-k c = search needs
@@ -64,18 +67,19 @@ tasks-of-spec =
     (tie.spec
     Inv-loop
     μ-loop
+    add-windows
+    add-lengths
     loop-holds
-    add-task
-    cast-task
-    cast-task-2
+    div-wrapping-add-u32
+    rem-wrapping-add-u32
+    wrapping-add-u32-requires
+    div-task
+    rem-task
     task-requires
     mul-tasks
     array-set-from-tasks
-    cast-task-3
-    cast-task-4
-    task-requires-2
-    mul-tasks-2
-    array-set-from-tasks-2
+    div-rest
+    div-rest-2
     add-k
     loop-less
     loop-again

@@ -1,8 +1,8 @@
--- `small_tables::placing::same_runs` is safe and ends: the measure is the number of ticks left.
+-- `small_tables::owners::same_runs` is safe and ends: the measure is the number of ticks left.
 use Prim.Native.Nat.{_-_}
 use borrow.Author.Needs.{needs}
-use Rattle.small_tables.proofs.placing.same_runs.Statement.{statement}
-use Rattle.small_tables.proofs.placing.same_runs.Tie as tie
+use Rattle.small_tables.proofs.owners.same_runs.Statement.{statement}
+use Rattle.small_tables.proofs.owners.same_runs.Tie as tie
 
 abbrev Inv-loop : tie.InvT-loop
 Inv-loop runs owners starts ends tasks wrong₀ last₀ run₀ tick₀ wrong last run tick = Unit

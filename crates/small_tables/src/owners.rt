@@ -1,0 +1,39 @@
+// Plans of small tables, tick by tick: each tick has an owner, which is a position or nobody.
+
+// The ticks of a small table, and one more that no window has.
+pub const TICKS: usize = 8;
+
+// The most runs of four tasks.
+pub const RUNS: usize = 7;
+
+// The owner of a free tick.
+pub const NOBODY: u32 = 4;
+
+// The runs are the longest stretches of one owner, in the order of time, and there are as many.
+pub fn same_runs(
+    owners: [u32; TICKS],
+    runs: usize,
+    starts: [u32; RUNS],
+    ends: [u32; RUNS],
+    tasks: [u32; RUNS],
+) -> bool {
+    let mut wrong: u32 = 0;
+    let mut last = NOBODY;
+    let mut run: usize = 0;
+    let mut tick: u32 = 0;
+    while tick < 8 {
+        let owner = owners[tick as usize];
+        if owner != last {
+            if last != NOBODY {
+                wrong = wrong | ends[run % 7] ^ tick;
+                run = run % 8 + 1;
+            }
+            if owner != NOBODY {
+                wrong = wrong | starts[run % 7] ^ tick | tasks[run % 7] ^ owner;
+            }
+        }
+        last = owner;
+        tick += 1;
+    }
+    wrong == 0 && run == runs
+}
