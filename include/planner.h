@@ -15,6 +15,13 @@
  * Ticks are milliseconds. A frame lasts p/q ticks. A window holds the ticks from the least tick not before release * p / q, included, to the
  * greatest tick not after deadline * p / q, excluded.
  *
+ * Tables of two kinds are accepted. Both are judged in frames, and each has an order of its tasks.
+ * - Nested: of any two windows one contains the other. Nest order puts the window with fewer frames first, and the lower position first among
+ *   equals. The last in it is outermost.
+ * - Similar: of any two tasks the one released earlier has no later deadline, so that the windows follow one another. They may overlap, and equal
+ *   releases put no condition on the two. Similar order is by release, deadline, position.
+ * A table of both kinds is taken as nested.
+ *
  * Refusals
  *
  *   number  cause                                                            place
@@ -24,17 +31,17 @@
  *   4       a padding bit is set                                             0
  *   5       p or q is 0 or above 4095, or p is below q                       0
  *   6       a release frame is not below the deadline frame                  the lowest such position
- *   7       two windows are not nested                                       the lowest position not nested with some earlier one
- *   8       no running completes all mandatory parts                         the first task in nest order where the mandatory ticks up to and
- *                                                                            with it exceed its window
+ *   7       the table is neither nested nor similar                          the lowest position such that the tasks up to and with it are of
+ *                                                                            neither kind
+ *   8       no running completes all mandatory parts                         the first task in its kind's order where the mandatory ticks up to
+ *                                                                            and with it can't be met
  *   9       a lent list is too short                                         0
  *   10      a moved frame is below 0 or above 131071                         the lowest such position
  *   11      the keep list is not n long, or a mark is above 1                n if the length is wrong, else the first bad mark
  *   12      a field to be written is wider than its bits                     the lowest such position
  *   13      more than 4096 runs, or run columns of unequal length            0
  *
- * The first cause that holds, in the order that stands at each call, is the one replied. Nest order puts the window with fewer frames first, and the
- * lower position first among equals.
+ * The first cause that holds, in the order that stands at each call, is the one replied.
  */
 #ifndef PLANNER_H
 #define PLANNER_H
@@ -70,7 +77,8 @@ enum {
     PLANNER_PADDING_SET = 4,
     PLANNER_BAD_PERIOD = 5,
     PLANNER_BAD_WINDOW = 6,
-    PLANNER_NOT_NESTED = 7,
+    PLANNER_NEITHER_KIND = 7,
+    PLANNER_NOT_NESTED = PLANNER_NEITHER_KIND, /* its name when only nested tables were accepted */
     PLANNER_NO_RUNNING = 8,
     PLANNER_SHORT_LIST = 9,
     PLANNER_FRAME_OUTSIDE = 10,
@@ -157,7 +165,12 @@ struct planner_written planner_shift(const uint8_t *file, size_t file_length, in
  * Planning a file of n tasks, into lists of at least n marks and 2n - 1 starts, ends and tasks (64 and 127 are always enough). A mark is 1 where the
  * optional part of the task at that position is kept, and 0 where it is discarded; it is 1 for a part of 0 ticks. Run i of the plan gives the ticks
  * from starts[i], included, to ends[i], excluded, to the task tasks[i]; runs are listed by start.
- * Refusals: those of reading, 8, 9.
+ * - Of the lists of marks that fit, the plan has one that discards fewest parts. In a nested table it is then one with the least total of kept
+ *   optional ticks, and then, at the outermost task where two lists differ, the one that keeps. In a similar table it is then, at the last task in
+ *   similar order where two lists differ, the one that keeps.
+ * - In a nested table each task, in nest order, takes the latest ticks of its window that are still free. In a similar table each task runs in
+ *   similar order, as early as it can, and the plan has at most n runs.
+ * Refusals: those of reading, 8, 9. 9 is sent for fewer than 2n - 1 places whatever the kind.
  */
 struct planner_planned planner_plan(const uint8_t *file, size_t file_length,
                                     uint8_t *marks, size_t marks_length,

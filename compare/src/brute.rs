@@ -1,8 +1,8 @@
-//! The best plan of a small table, by trying every keep list. Nothing is shared with the reference but the table type and the frame clock: fitting
-//! is added up as the rule says, work is placed tick by tick, and whether a keep list has any running is found by running the table tick by tick,
-//! the earliest deadline first.
+//! The best plan of a small table, by trying every keep list. Nothing is shared with the reference but the types of table and task and the frame
+//! clock: a table's kind is looked up pair by pair for every cut, fitting is added up as the rules say, work is placed tick by tick, and whether a keep
+//! list has any running is found by matching ticks to tasks, which knows nothing of kinds, orders and deadlines that come first.
 
-use crate::reference::{deadline_tick, release_tick, Table};
+use crate::reference::{deadline_tick, release_tick, Table, Task};
 
 /// What the rules of the planner give for a table.
 #[derive(Clone, Debug, PartialEq, Eq)]
@@ -13,6 +13,9 @@ pub struct Best {
     /// (start, end, task), by start.
     pub runs: Vec<(u32, u32, u32)>,
 }
+
+/// A plan, or the number and the place of the refusal: 7 or 8.
+pub type Answer = Result<Best, (u32, usize)>;
 
 struct Job {
     position: usize,
@@ -28,48 +31,104 @@ impl Job {
     }
 }
 
-/// The list fits: for each task in nest order, its work and that of all before it come to no more than the ticks of its window.
-fn fits(jobs: &[Job], marks: &[u8]) -> bool {
-    (0..jobs.len()).all(|i| {
+/// Every two tasks, taken in both ways, meet a condition.
+fn every_two(tasks: &[Task], meet: fn(&Task, &Task) -> bool) -> bool {
+    tasks.iter().all(|a| tasks.iter().all(|b| meet(a, b)))
+}
+
+/// Of any two windows one contains the other, in frames: neither begins and ends before the other does.
+fn is_nested(tasks: &[Task]) -> bool {
+    every_two(tasks, |a, b| !(a.release < b.release && a.deadline < b.deadline))
+}
+
+/// Of any two tasks the one released earlier has no later deadline, in frames.
+fn is_similar(tasks: &[Task]) -> bool {
+    every_two(tasks, |a, b| !(a.release < b.release && a.deadline > b.deadline))
+}
+
+/// The first position such that the tasks up to and with it are of neither kind.
+fn first_of_neither(tasks: &[Task]) -> Option<usize> {
+    (0..tasks.len()).find(|&k| !is_nested(&tasks[..=k]) && !is_similar(&tasks[..=k]))
+}
+
+/// The first task in nest order whose work and that of all before it come to more than the ticks of its window.
+fn first_exceeding(jobs: &[Job], marks: &[u8]) -> Option<usize> {
+    (0..jobs.len()).find(|&i| {
         let work: u32 = jobs[..=i].iter().map(|job| job.work(marks)).sum();
-        work <= jobs[i].deadline.saturating_sub(jobs[i].release)
+        work > jobs[i].deadline.saturating_sub(jobs[i].release)
     })
 }
 
-/// Some running gives each task its work: on one processor, if there is one, the earliest deadline first is one.
-fn has_running(jobs: &[Job], marks: &[u8]) -> bool {
+/// Who has each tick where every task in similar order runs as early as it can: a tick goes to the first task that has work left, if it is released.
+/// The ticks go on until all work is done.
+fn in_sequence(jobs: &[Job], marks: &[u8]) -> Vec<Option<usize>> {
     let mut missing: Vec<u32> = jobs.iter().map(|job| job.work(marks)).collect();
-    let last = jobs.iter().map(|job| job.deadline).max().unwrap_or(0);
-    for tick in 0..last {
-        let ready = (0..jobs.len()).filter(|&i| missing[i] > 0 && jobs[i].release <= tick);
-        if let Some(i) = ready.min_by_key(|&i| jobs[i].deadline) {
-            if jobs[i].deadline <= tick {
-                return false;
-            }
-            missing[i] -= 1;
-        }
+    let mut holders = Vec::new();
+    while let Some(i) = missing.iter().position(|&ticks| ticks > 0) {
+        let released = jobs[i].release as usize <= holders.len();
+        holders.push(released.then_some(i));
+        missing[i] -= u32::from(released);
     }
-    missing.iter().all(|&ticks| ticks == 0)
+    holders
 }
 
-/// The runs of a keep list that fits: each task in nest order takes the latest free ticks of its window.
-fn place(jobs: &[Job], marks: &[u8]) -> Vec<(u32, u32, u32)> {
+/// The first task in similar order that has a tick at or after its deadline.
+fn first_late(jobs: &[Job], marks: &[u8]) -> Option<usize> {
+    let holders = in_sequence(jobs, marks);
+    (0..jobs.len()).find(|&i| holders.iter().skip(jobs[i].deadline as usize).any(|&holder| holder == Some(i)))
+}
+
+/// Who has each tick where every task in nest order takes the latest free ticks of its window. The list fits.
+fn in_nest(jobs: &[Job], marks: &[u8]) -> Vec<Option<usize>> {
     let last = jobs.iter().map(|job| job.deadline).max().unwrap_or(0);
-    let mut holder = vec![None; last as usize + 1];
-    for job in jobs {
+    let mut holders = vec![None; last as usize];
+    for (i, job) in jobs.iter().enumerate() {
         let mut work = job.work(marks);
         for tick in (job.release..job.deadline).rev() {
-            if work > 0 && holder[tick as usize].is_none() {
-                holder[tick as usize] = Some(job.position as u32);
+            if work > 0 && holders[tick as usize].is_none() {
+                holders[tick as usize] = Some(i);
                 work -= 1;
             }
         }
         assert_eq!(work, 0, "a list that fits has no place");
     }
+    holders
+}
+
+/// Some running gives each task its work. The ticks are matched to the tasks, one tick of work after another: where no tick of the window is free, the
+/// task takes one from a task that can have another instead, over any number of tasks. Where that fails, the works can't all be matched.
+fn has_running(jobs: &[Job], marks: &[u8]) -> bool {
+    let last = jobs.iter().map(|job| job.deadline).max().unwrap_or(0);
+    let mut holders = vec![None; last as usize];
+    jobs.iter().enumerate().all(|(i, job)| (0..job.work(marks)).all(|_| get_tick(jobs, &mut holders, &mut vec![false; jobs.len()], i)))
+}
+
+/// Gives one tick more to a task, and moves others to other ticks where that is needed. Tasks that were asked before are not asked again. Where the answer
+/// is no, nothing has moved.
+fn get_tick(jobs: &[Job], holders: &mut [Option<usize>], asked: &mut [bool], i: usize) -> bool {
+    asked[i] = true;
+    let window = jobs[i].release as usize..jobs[i].deadline as usize;
+    if let Some(tick) = window.clone().find(|&tick| holders[tick].is_none()) {
+        holders[tick] = Some(i);
+        return true;
+    }
+    for tick in window {
+        if let Some(other) = holders[tick] {
+            if !asked[other] && get_tick(jobs, holders, asked, other) {
+                holders[tick] = Some(i);
+                return true;
+            }
+        }
+    }
+    false
+}
+
+/// The runs: the longest stretches of one task.
+fn stretches(jobs: &[Job], holders: &[Option<usize>]) -> Vec<(u32, u32, u32)> {
     let mut runs: Vec<(u32, u32, u32)> = Vec::new();
-    for (tick, holder) in holder.iter().enumerate() {
-        let tick = tick as u32;
-        let Some(task) = *holder else { continue };
+    for (tick, &holder) in (0..).zip(holders) {
+        let Some(i) = holder else { continue };
+        let task = jobs[i].position as u32;
         match runs.last_mut() {
             Some(run) if run.1 == tick && run.2 == task => run.1 = tick + 1,
             _ => runs.push((tick, tick + 1, task)),
@@ -78,37 +137,53 @@ fn place(jobs: &[Job], marks: &[u8]) -> Vec<(u32, u32, u32)> {
     runs
 }
 
-/// The best plan of an accepted table, or the place of refusal 8. An error says where the rules contradict one another.
-pub fn best(table: &Table) -> Result<Result<Best, usize>, String> {
-    let mut jobs: Vec<Job> = (0..table.count as usize)
-        .map(|position| {
-            let task = table.tasks[position];
-            Job {
-                position,
-                release: release_tick(task.release, table.p, table.q),
-                deadline: deadline_tick(task.deadline, table.p, table.q),
-                mandatory: task.mandatory,
-                optional: task.optional,
-            }
-        })
-        .collect();
-    // Nest order: a stable sort keeps the lower position first.
-    jobs.sort_by_key(|job| table.tasks[job.position].deadline - table.tasks[job.position].release);
+/// The tasks in ticks, in the order of the table's kind: a stable sort keeps the lower position first among equals.
+fn in_order(table: &Table, nested: bool) -> Vec<Job> {
+    let mut positions: Vec<usize> = (0..table.count as usize).collect();
+    if nested {
+        positions.sort_by_key(|&k| table.tasks[k].deadline - table.tasks[k].release);
+    } else {
+        positions.sort_by_key(|&k| table.tasks[k].deadline);
+        positions.sort_by_key(|&k| table.tasks[k].release);
+    }
+    let job = |position: usize| {
+        let task = table.tasks[position];
+        Job {
+            position,
+            release: release_tick(task.release, table.p, table.q),
+            deadline: deadline_tick(task.deadline, table.p, table.q),
+            mandatory: task.mandatory,
+            optional: task.optional,
+        }
+    };
+    positions.into_iter().map(job).collect()
+}
+
+/// What planning owes a table whose windows are forward. An error says where the rules contradict one another.
+pub fn best(table: &Table) -> Result<Answer, String> {
+    if let Some(k) = first_of_neither(table.tasks()) {
+        return Ok(Err((7, k)));
+    }
+    let nested = is_nested(table.tasks());
+    let jobs = in_order(table, nested);
+    let first_unmet = if nested { first_exceeding } else { first_late };
     let n = jobs.len();
 
     let nothing = vec![0; n];
-    let first_exceeding = (0..n).find(|&i| {
-        let mandatory: u32 = jobs[..=i].iter().map(|job| job.mandatory).sum();
-        mandatory > jobs[i].deadline.saturating_sub(jobs[i].release)
-    });
-    if first_exceeding.is_none() != has_running(&jobs, &nothing) {
+    let unmet = first_unmet(&jobs, &nothing);
+    if unmet.is_none() != has_running(&jobs, &nothing) {
         return Err("refusal 8 and the runnings of the mandatory parts".into());
     }
-    if let Some(i) = first_exceeding {
-        return Ok(Err(jobs[i].position));
+    if let Some(i) = unmet {
+        // The mandatory parts of the tasks before it can be met, those up to and with it can't.
+        if !has_running(&jobs[..i], &nothing) || has_running(&jobs[..=i], &nothing) {
+            return Err("the place of refusal 8 and the runnings of the mandatory parts up to it".into());
+        }
+        return Ok(Err((8, jobs[i].position)));
     }
 
-    // A list is better if it discards fewer, then if its kept total is less, then if it keeps where they differ outermost.
+    // A list is better if it discards fewer, then, where the windows are nested, if its kept total is less, then if it keeps at the last task in order
+    // where they differ.
     type Rank = (u32, u32, Vec<bool>);
     let mut best: Option<(Rank, Vec<u8>)> = None;
     let mut fewest_of_runnings = u32::MAX;
@@ -122,15 +197,15 @@ pub fn best(table: &Table) -> Result<Result<Best, usize>, String> {
         if running {
             fewest_of_runnings = fewest_of_runnings.min(discarded);
         }
-        if fits(&jobs, &marks) != running {
+        if first_unmet(&jobs, &marks).is_none() != running {
             return Err(format!("fitting and having a running, for the marks {marks:?}"));
         }
         if !running {
             continue;
         }
-        let total = jobs.iter().filter(|job| marks[job.position] == 1).map(|job| job.optional).sum();
-        let dropped_outermost_first = jobs.iter().rev().map(|job| marks[job.position] == 0).collect();
-        let rank = (discarded, total, dropped_outermost_first);
+        let total: u32 = jobs.iter().filter(|job| marks[job.position] == 1).map(|job| job.optional).sum();
+        let dropped_last_first = jobs.iter().rev().map(|job| marks[job.position] == 0).collect();
+        let rank = (discarded, if nested { total } else { 0 }, dropped_last_first);
         if best.as_ref().is_none_or(|(least, _)| rank < *least) {
             best = Some((rank, marks));
         }
@@ -142,6 +217,6 @@ pub fn best(table: &Table) -> Result<Result<Best, usize>, String> {
         return Err("the fewest discards of a list and of a running".into());
     }
     let kept = jobs.iter().filter(|job| job.optional > 0 && marks[job.position] == 1).count() as u32;
-    let runs = place(&jobs, &marks);
-    Ok(Ok(Best { marks, kept, discarded, runs }))
+    let holders = if nested { in_nest(&jobs, &marks) } else { in_sequence(&jobs, &marks) };
+    Ok(Ok(Best { marks, kept, discarded, runs: stretches(&jobs, &holders) }))
 }

@@ -1,7 +1,7 @@
 //! Tables, files and run lists made at random: valid ones, and ones that are damaged.
 
 use crate::random::Random;
-use crate::reference::{self, deadline_tick, release_tick, Table, Task, LAST_FRAME, MAX_PERIOD, MAX_TASKS, MAX_TICKS};
+use crate::reference::{self, deadline_tick, release_tick, Kind, Table, Task, LAST_FRAME, MAX_PERIOD, MAX_TASKS, MAX_TICKS};
 
 /// How the lengths of a table's parts compare with the ticks that its windows have.
 #[derive(Clone, Copy, Debug, PartialEq, Eq)]
@@ -45,8 +45,21 @@ pub fn period(random: &mut Random) -> (u32, u32) {
     }
 }
 
-/// A chain of n windows, each inside the next, some equal.
-fn windows(random: &mut Random, n: usize) -> Vec<(u32, u32)> {
+/// How the windows of a table lie to one another.
+#[derive(Clone, Copy, Debug, PartialEq, Eq)]
+pub enum Shape {
+    /// One inside the other.
+    Nested,
+    /// One after the other: none begins or ends before the one in front of it.
+    Similar,
+    /// Both: all of them begin together, or all end together.
+    Both,
+}
+
+const SHAPES: [Shape; 5] = [Shape::Nested, Shape::Nested, Shape::Similar, Shape::Similar, Shape::Both];
+
+/// n windows, each inside the next, some equal.
+fn chain(random: &mut Random, n: usize) -> Vec<(u32, u32)> {
     let step = random.pick(&[0, 1, 1, 2, 3, 10, 100, 1000]);
     let longest = random.pick(&[1, 2, 5, 50, 1000]);
     let inner = random.between(1, longest);
@@ -69,9 +82,76 @@ fn windows(random: &mut Random, n: usize) -> Vec<(u32, u32)> {
     chain
 }
 
-/// A legal table of n tasks with nested windows.
-pub fn nested_table(random: &mut Random, n: usize, (p, q): (u32, u32), load: Load) -> Table {
-    let chain = windows(random, n);
+/// n windows in similar order: some equal, some with one end in common, some that touch or lie apart, most of them overlapping.
+fn sequence(random: &mut Random, n: usize) -> Vec<(u32, u32)> {
+    let step = random.pick(&[1, 1, 2, 3, 10, 100, 1000]);
+    let longest = random.pick(&[1, 2, 3, 5, 50, 1000]);
+    let mut release = if random.once_in(4) { random.up_to(LAST_FRAME - 1) } else { random.up_to(5) };
+    let mut deadline = (release + random.between(1, longest)).min(LAST_FRAME);
+    let mut sequence = Vec::with_capacity(n);
+    for _ in 0..n {
+        sequence.push((release, deadline));
+        match random.up_to(11) {
+            0 => {}
+            1 => deadline += random.up_to(step),
+            2 => release = (release + random.up_to(step)).min(deadline - 1),
+            3 => {
+                release = deadline + random.up_to(1) * random.up_to(step);
+                deadline = release + random.between(1, longest);
+            }
+            _ => {
+                release += random.up_to(step);
+                deadline += random.up_to(step);
+            }
+        }
+        release = release.min(LAST_FRAME - 1);
+        deadline = deadline.clamp(release + 1, LAST_FRAME);
+    }
+    sequence
+}
+
+/// n windows of a shape: similar ones in similar order, the others from the innermost on.
+fn windows(random: &mut Random, n: usize, shape: Shape) -> Vec<(u32, u32)> {
+    match shape {
+        Shape::Nested => chain(random, n),
+        Shape::Similar => sequence(random, n),
+        Shape::Both => {
+            let mut windows = chain(random, n);
+            let (first, last) = windows[n - 1];
+            if random.once_in(2) {
+                windows.iter_mut().for_each(|window| window.0 = first);
+            } else {
+                windows.iter_mut().for_each(|window| window.1 = last);
+            }
+            windows
+        }
+    }
+}
+
+/// The lengths of a task that has so many ticks for itself.
+fn lengths(random: &mut Random, free: u32, few: u32, load: Load) -> (u32, u32) {
+    let (mandatory, optional) = match load {
+        Load::Loose => {
+            let mandatory = random.up_to(free / 2);
+            (mandatory, random.up_to(free - mandatory))
+        }
+        Load::Tight => {
+            let part = random.pick(&[1, 2, 4]);
+            let mandatory = random.up_to(free / part);
+            (mandatory, random.up_to((free - mandatory / 2).saturating_mul(3)))
+        }
+        Load::Few => (random.up_to(few).min(free), random.up_to(few)),
+        Load::Large => {
+            (if random.once_in(2) { random.up_to(free) } else { random.between(MAX_TICKS - 1, MAX_TICKS).min(free) }, MAX_TICKS - random.up_to(2))
+        }
+        Load::Any => (random.up_to(MAX_TICKS) >> random.up_to(14), random.up_to(MAX_TICKS) >> random.up_to(14)),
+    };
+    (mandatory.min(MAX_TICKS), optional.min(MAX_TICKS))
+}
+
+/// A legal table of n tasks with windows of a shape.
+pub fn shaped_table(random: &mut Random, n: usize, (p, q): (u32, u32), shape: Shape, load: Load) -> Table {
+    let windows = windows(random, n, shape);
     let mut positions: Vec<usize> = (0..n).collect();
     match random.up_to(3) {
         0 => {}
@@ -83,29 +163,20 @@ pub fn nested_table(random: &mut Random, n: usize, (p, q): (u32, u32), load: Loa
         }
     }
     let mut table = Table { count: n as u32, p, q, ..Table::ZERO };
+    // What the tasks so far use: of nested windows so many ticks, of similar ones all ticks before this one.
     let mut used = 0;
     let few = random.between(1, 4);
-    for (&(release, deadline), &position) in chain.iter().zip(&positions) {
-        let ticks = deadline_tick(deadline, p, q).saturating_sub(release_tick(release, p, q));
-        // What is left in this window, shared with some of those to come.
-        let free = ticks.saturating_sub(used) / random.pick(&[1, 2, 2, 4, 8]);
-        let (mandatory, optional) = match load {
-            Load::Loose => {
-                let mandatory = random.up_to(free / 2);
-                (mandatory, random.up_to(free - mandatory))
-            }
-            Load::Tight => {
-                let part = random.pick(&[1, 2, 4]);
-                let mandatory = random.up_to(free / part);
-                (mandatory, random.up_to((free - mandatory / 2).saturating_mul(3)))
-            }
-            Load::Few => (random.up_to(few).min(free), random.up_to(few)),
-            Load::Large => {
-                (if random.once_in(2) { random.up_to(free) } else { random.between(MAX_TICKS - 1, MAX_TICKS).min(free) }, MAX_TICKS - random.up_to(2))
-            }
-            Load::Any => (random.up_to(MAX_TICKS) >> random.up_to(14), random.up_to(MAX_TICKS) >> random.up_to(14)),
-        };
-        let mut task = Task { release, deadline, mandatory: mandatory.min(MAX_TICKS), optional: optional.min(MAX_TICKS) };
+    for (&(release, deadline), &position) in windows.iter().zip(&positions) {
+        let (from, to) = (release_tick(release, p, q), deadline_tick(deadline, p, q));
+        let ticks = to.saturating_sub(from);
+        if shape == Shape::Similar {
+            used = used.max(from);
+        }
+        let left = if shape == Shape::Similar { to.saturating_sub(used) } else { ticks.saturating_sub(used) };
+        // What is left, shared with some of those to come.
+        let free = left / random.pick(&[1, 2, 2, 4, 8]);
+        let (mandatory, optional) = lengths(random, free, few, load);
+        let mut task = Task { release, deadline, mandatory, optional };
         if random.once_in(8) {
             task.optional = 0;
         }
@@ -124,12 +195,46 @@ pub fn nested_table(random: &mut Random, n: usize, (p, q): (u32, u32), load: Loa
     table
 }
 
-/// A legal table, whatever its size, period and load.
+/// A legal table of n tasks, whatever its period, shape and load.
+fn table_of(random: &mut Random, n: usize) -> Table {
+    let period = period(random);
+    let shape = random.pick(&SHAPES);
+    let load = random.pick(&LOADS);
+    shaped_table(random, n, period, shape, load)
+}
+
+/// A legal table of any size.
 pub fn table(random: &mut Random) -> Table {
     let n = task_count(random);
-    let period = period(random);
-    let load = random.pick(&LOADS);
-    nested_table(random, n, period, load)
+    table_of(random, n)
+}
+
+/// Makes the window of one task lie strictly around that of another, strictly inside it, or across its end: the first two are not similar, the last is
+/// not nested.
+pub fn set_against(random: &mut Random, table: &mut Table) {
+    let n = (table.count as usize).min(MAX_TASKS);
+    if n < 2 {
+        return;
+    }
+    let (k, other) = (random.index(n), random.index(n));
+    let Task { release, deadline, .. } = table.tasks[other];
+    let by = random.between(1, 3);
+    let (release, deadline) = match random.up_to(2) {
+        0 => (release.saturating_sub(by), deadline.saturating_add(by).min(LAST_FRAME)),
+        1 if deadline.saturating_sub(release) > 2 => (release + 1, deadline - 1),
+        _ => (deadline.saturating_sub(1), deadline.saturating_add(by).min(LAST_FRAME)),
+    };
+    (table.tasks[k].release, table.tasks[k].deadline) = (release, deadline);
+}
+
+/// A table that mostly is of neither kind: a legal one of three tasks or more, with some windows set against others.
+pub fn mixed_table(random: &mut Random) -> Table {
+    let n = task_count(random).max(3);
+    let mut table = table_of(random, n);
+    for _ in 0..random.between(1, 3) {
+        set_against(random, &mut table);
+    }
+    table
 }
 
 /// A table with one to three faults, some of which may do no harm.
@@ -138,7 +243,7 @@ pub fn faulty_table(random: &mut Random) -> Table {
     for _ in 0..random.between(1, 3) {
         let n = (table.count as usize).min(MAX_TASKS);
         let k = random.index(n.max(1));
-        match random.up_to(9) {
+        match random.up_to(10) {
             0 => table.count = random.pick(&[0, 1, 63, 64, 65, 66, 127, 128, u32::MAX]),
             1 => table.p = random.pick(&[0, 1, 2, MAX_PERIOD, MAX_PERIOD + 1, 8191, u32::MAX]),
             2 => table.q = random.pick(&[0, 1, 2, MAX_PERIOD, MAX_PERIOD + 1, 8191, u32::MAX]),
@@ -152,6 +257,7 @@ pub fn faulty_table(random: &mut Random) -> Table {
                 table.tasks[k].release = (table.tasks[k].release + by).min(LAST_FRAME);
                 table.tasks[k].deadline = (table.tasks[k].deadline + by).min(LAST_FRAME);
             }
+            9 => set_against(random, &mut table),
             _ => {
                 // Places beyond the count don't matter.
                 for task in &mut table.tasks[n..] {
@@ -198,7 +304,8 @@ pub fn file(random: &mut Random) -> Vec<u8> {
             }
             file
         }
-        12..=14 => pack(&faulty_table(random)),
+        12..=13 => pack(&faulty_table(random)),
+        14 => pack(&mixed_table(random)),
         _ => {
             let mut file = pack(&table(random));
             for _ in 0..random.between(1, 2) {
@@ -277,8 +384,8 @@ impl Columns {
     }
 }
 
-/// A running of a table that need not follow the placing rule: work from the earliest free ticks, in nest order, for a keep list made by dropping
-/// parts of the planner's own at random. The list is given as marks.
+/// A running of a table that need not follow the placing rule, for a keep list made by dropping parts of the planner's own at random. The list is given
+/// as marks. Nested tasks get the earliest free ticks, in nest order; similar ones run as late as they can, from the last in similar order back.
 fn other_running(random: &mut Random, table: &Table, marks: &mut [u8]) -> Vec<(u32, u32, u32)> {
     for mark in marks.iter_mut() {
         if random.once_in(4) {
@@ -286,13 +393,42 @@ fn other_running(random: &mut Random, table: &Table, marks: &mut [u8]) -> Vec<(u
         }
     }
     let mut order: Vec<usize> = (0..table.count as usize).collect();
+    if reference::check_windows(table.tasks()) == Ok(Kind::Similar) {
+        order.sort_by_key(|&k| (table.tasks[k].release, table.tasks[k].deadline));
+        return latest_runs(table, marks, &order);
+    }
     order.sort_by_key(|&k| table.tasks[k].deadline - table.tasks[k].release);
+    earliest_runs(table, marks, &order)
+}
+
+/// A task's work under some marks, and its window in ticks.
+fn job(table: &Table, marks: &[u8], k: usize) -> (u32, u32, u32) {
+    let task = table.tasks[k];
+    let work = task.mandatory + if marks[k] == 1 { task.optional } else { 0 };
+    (work, release_tick(task.release, table.p, table.q), deadline_tick(task.deadline, table.p, table.q))
+}
+
+/// Each task from the last of an order back runs in one stretch, as late as it can before those behind it.
+fn latest_runs(table: &Table, marks: &[u8], order: &[usize]) -> Vec<(u32, u32, u32)> {
+    let mut runs = Vec::new();
+    let mut until = u32::MAX;
+    for &k in order.iter().rev() {
+        let (work, _, deadline) = job(table, marks, k);
+        if work > 0 {
+            let end = until.min(deadline);
+            until = end.saturating_sub(work);
+            runs.push((until, end, k as u32));
+        }
+    }
+    runs.reverse();
+    runs
+}
+
+/// Each task of an order gets the earliest free ticks of its window.
+fn earliest_runs(table: &Table, marks: &[u8], order: &[usize]) -> Vec<(u32, u32, u32)> {
     let mut runs: Vec<(u32, u32, u32)> = Vec::new();
-    for k in order {
-        let task = table.tasks[k];
-        let mut work = task.mandatory + if marks[k] == 1 { task.optional } else { 0 };
-        let mut from = release_tick(task.release, table.p, table.q);
-        let deadline = deadline_tick(task.deadline, table.p, table.q);
+    for &k in order {
+        let (mut work, mut from, deadline) = job(table, marks, k);
         let mut at = 0;
         while work > 0 && from < deadline {
             let to = runs.get(at).map_or(deadline, |run| run.0);

@@ -1,6 +1,6 @@
 //! The rules of the planner a second time, in plain Rust, beside the proved library.
 //!
-//! - `reference`: the independent implementation, written from the rules alone.
+//! - `reference`: the independent implementation, written from documents 01 and 02 alone.
 //! - `ffi`: the six calls of the proved library.
 //! - `random`, `inputs`: the seeded generator, and the tables, files and run lists made with it.
 //! - `brute`: the best plan of a small table by trying every keep list.

@@ -1,6 +1,7 @@
-//! The independent implementation: reading, writing, moving, planning, judging and the busy count, written from the rules of the planner and not
-//! from the proved library. Only std, no unsafe code.
+//! The independent implementation: reading, writing, moving, planning, judging and the busy count, written from the rules of documents 01 and 02
+//! (request 1) and not from the proved library. Only std, no unsafe code.
 
+use std::cmp::Ordering;
 use std::collections::VecDeque;
 
 pub const MAX_TASKS: usize = 64;
@@ -154,26 +155,55 @@ fn bad_period(p: u32, q: u32) -> bool {
     !(1..=MAX_PERIOD).contains(&p) || !(1..=MAX_PERIOD).contains(&q) || p < q
 }
 
+/// The kinds of tables. A table that is of both kinds is nested.
+#[derive(Clone, Copy, Debug, PartialEq, Eq)]
+pub enum Kind {
+    Nested,
+    Similar,
+}
+
 fn contains(outer: &Task, inner: &Task) -> bool {
     outer.release <= inner.release && inner.deadline <= outer.deadline
 }
 
-/// Refusals 6 and 7.
-fn check_windows(tasks: &[Task]) -> Result<(), Refusal> {
+/// One of the windows contains the other.
+fn nested(a: &Task, b: &Task) -> bool {
+    contains(a, b) || contains(b, a)
+}
+
+/// The window that is released earlier has no later deadline; equal releases put no condition.
+fn similar(a: &Task, b: &Task) -> bool {
+    match a.release.cmp(&b.release) {
+        Ordering::Less => a.deadline <= b.deadline,
+        Ordering::Equal => true,
+        Ordering::Greater => b.deadline <= a.deadline,
+    }
+}
+
+/// Refusals 6 and 7, and the kind of a table that has neither fault.
+pub fn check_windows(tasks: &[Task]) -> Result<Kind, Refusal> {
     if let Some(k) = tasks.iter().position(|t| t.release >= t.deadline) {
         return refuse(6, k);
     }
+    // Of the tasks so far all are nested; all are similar.
+    let (mut all_nested, mut all_similar) = (true, true);
     for (k, task) in tasks.iter().enumerate() {
-        let nested = |earlier: &Task| contains(earlier, task) || contains(task, earlier);
-        if !tasks[..k].iter().all(nested) {
+        all_nested = all_nested && tasks[..k].iter().all(|earlier| nested(earlier, task));
+        all_similar = all_similar && tasks[..k].iter().all(|earlier| similar(earlier, task));
+        if !all_nested && !all_similar {
             return refuse(7, k);
         }
     }
-    Ok(())
+    Ok(if all_nested { Kind::Nested } else { Kind::Similar })
 }
 
 /// Reading.
 pub fn read(file: &[u8]) -> Result<Table, Refusal> {
+    read_with_kind(file).map(|(table, _)| table)
+}
+
+/// Reading, and the kind of the table.
+fn read_with_kind(file: &[u8]) -> Result<(Table, Kind), Refusal> {
     if file.len() < 4 {
         return refuse(1, file.len());
     }
@@ -203,8 +233,8 @@ pub fn read(file: &[u8]) -> Result<Table, Refusal> {
         *task =
             Task { release: bits.take(FRAME_BITS), deadline: bits.take(FRAME_BITS), mandatory: bits.take(TICK_BITS), optional: bits.take(TICK_BITS) };
     }
-    check_windows(table.tasks())?;
-    Ok(table)
+    let kind = check_windows(table.tasks())?;
+    Ok((table, kind))
 }
 
 /// The file of a legal table, into a list of exactly its length.
@@ -265,6 +295,9 @@ pub fn shift(file: &[u8], frames: i32, out: &mut [u8]) -> Result<usize, Refusal>
 
 // ---- planning
 
+/// Above every tick and every sum of ticks: no list.
+const NONE: u32 = u32::MAX / 2;
+
 /// A task in ticks.
 #[derive(Clone, Copy, Default)]
 struct Job {
@@ -275,12 +308,34 @@ struct Job {
     optional: u32,
 }
 
-/// The tasks in nest order: the window with fewer frames first, the lower position first among equals. Replies how many there are.
-fn nest_order(table: &Table) -> ([Job; MAX_TASKS], usize) {
+impl Job {
+    fn work(&self, kept: bool) -> u32 {
+        self.mandatory + if kept { self.optional } else { 0 }
+    }
+
+    /// When this much work of the job ends, as early as it can once the processor is free; NONE where that is after the deadline. No work ends at
+    /// once, whatever the window.
+    fn end(&self, free: u32, work: u32) -> u32 {
+        let end = free.max(self.release) + work;
+        match work {
+            0 => free,
+            _ if end <= self.deadline => end,
+            _ => NONE,
+        }
+    }
+}
+
+/// The tasks in the order of the table's kind, the lower position first among equals, and how many there are. Nest order: the window with fewer frames
+/// first. Similar order: by release frame, then deadline frame.
+fn in_order(table: &Table, kind: Kind) -> ([Job; MAX_TASKS], usize) {
     let n = table.count as usize;
     let mut order = [(0, 0); MAX_TASKS];
     for (k, task) in table.tasks().iter().enumerate() {
-        order[k] = (task.deadline - task.release, k);
+        let key = match kind {
+            Kind::Nested => u64::from(task.deadline - task.release),
+            Kind::Similar => u64::from(task.release) << 32 | u64::from(task.deadline),
+        };
+        order[k] = (key, k);
     }
     order[..n].sort_unstable();
     let mut jobs = [Job::default(); MAX_TASKS];
@@ -297,13 +352,30 @@ fn nest_order(table: &Table) -> ([Job; MAX_TASKS], usize) {
     (jobs, n)
 }
 
+/// The first nested job where the mandatory ticks up to and with it exceed its window.
+fn first_exceeding(jobs: &[Job]) -> Option<&Job> {
+    let mut mandatory = 0;
+    jobs.iter().find(|job| {
+        mandatory += job.mandatory;
+        mandatory > job.deadline - job.release
+    })
+}
+
+/// The first similar job whose mandatory ticks end too late, those of all before it run in order.
+fn first_late(jobs: &[Job]) -> Option<&Job> {
+    let mut free = 0;
+    jobs.iter().find(|job| {
+        free = job.end(free, job.mandatory);
+        free == NONE
+    })
+}
+
 /// Which optional parts are kept, by nest order. The mandatory parts alone fit.
 ///
 /// For each number k of kept parts, `least[k]` is the least total of kept optional ticks over the fitting lists of the jobs so far that keep k parts.
 /// A smaller total fits wherever a greater one does, so it is enough to know the least. `keeps[i][k]` says that job i is kept by the list that
 /// is best by the rules among those of the jobs up to i that keep k parts.
-fn choose(jobs: &[Job]) -> [bool; MAX_TASKS] {
-    const NONE: u32 = u32::MAX / 2;
+fn choose_nested(jobs: &[Job]) -> [bool; MAX_TASKS] {
     let mut least = [NONE; MAX_TASKS + 1];
     least[0] = 0;
     let mut keeps = [[false; MAX_TASKS + 1]; MAX_TASKS];
@@ -332,6 +404,47 @@ fn choose(jobs: &[Job]) -> [bool; MAX_TASKS] {
         if job.optional > 0 {
             kept[i] = k > 0 && keeps[i][k];
             k -= usize::from(kept[i]);
+        }
+    }
+    kept
+}
+
+/// Which optional parts are kept, by similar order. The mandatory parts alone end by the deadlines.
+///
+/// There is a row for each number i of jobs from 0 on: at k it has the least end of the first i jobs over the fitting lists that keep k of their
+/// parts. A list that ends earlier leaves at least as much to the jobs behind it, so it is enough to know the least. The rows are read from the last
+/// job back: a job is kept where some list of the jobs before it ends early enough that the job, and then all that was decided behind it, still end
+/// in time. `latest` is the latest end that does. A decision noted when a row is made would not do: it belongs to the list that ends first, and a
+/// list that ends later but still in time may keep the later job.
+fn choose_similar(jobs: &[Job]) -> [bool; MAX_TASKS] {
+    let width = jobs.len() + 1;
+    let mut rows = vec![NONE; width * width];
+    rows[0] = 0;
+    let mut parts = 0;
+    for (i, job) in jobs.iter().enumerate() {
+        let (done, next) = rows.split_at_mut(width * (i + 1));
+        let row = &done[width * i..][..=parts];
+        for (end, &before) in next.iter_mut().zip(row) {
+            *end = job.end(before, job.work(false));
+        }
+        if job.optional > 0 {
+            parts += 1;
+            for (end, &before) in next[1..].iter_mut().zip(row) {
+                *end = job.end(before, job.work(true)).min(*end);
+            }
+        }
+    }
+    let mut k = (0..=parts).rev().find(|&k| rows[width * jobs.len() + k] < NONE).unwrap_or(0);
+    let mut latest = NONE - 1;
+    let mut kept = [true; MAX_TASKS];
+    for (i, job) in jobs.iter().enumerate().rev() {
+        if job.optional > 0 {
+            kept[i] = k > 0 && job.end(rows[width * i + k - 1], job.work(true)) <= latest;
+            k -= usize::from(kept[i]);
+        }
+        let work = job.work(kept[i]);
+        if work > 0 {
+            latest = latest.min(job.deadline) - work;
         }
     }
     kept
@@ -382,15 +495,15 @@ impl Free {
     }
 }
 
-/// The runs by start. Each job takes the latest ticks of its window that are still free. The jobs before it lie inside its window, so it is enough
-/// to know what is free in the window of the last one.
-fn place(jobs: &[Job], kept: &[bool; MAX_TASKS]) -> Vec<Run> {
+/// The runs by start. Each job in nest order takes the latest ticks of its window that are still free. The jobs before it lie inside its window, so
+/// it is enough to know what is free in the window of the last one.
+fn place_nested(jobs: &[Job], kept: &[bool; MAX_TASKS]) -> Vec<Run> {
     let mut runs = Vec::with_capacity(2 * jobs.len());
     let first = jobs[0].release;
     let mut free = Free { window: (first, first), gaps: VecDeque::with_capacity(jobs.len() + 1) };
     for (job, &kept) in jobs.iter().zip(kept) {
         free.widen(job.release, job.deadline);
-        let mut work = job.mandatory + if kept { job.optional } else { 0 };
+        let mut work = job.work(kept);
         while work > 0 {
             let Some((start, end)) = free.take_latest(work) else { break };
             runs.push(Run { start, end, task: job.position as u32 });
@@ -401,24 +514,47 @@ fn place(jobs: &[Job], kept: &[bool; MAX_TASKS]) -> Vec<Run> {
     runs
 }
 
+/// The runs by start. Each job in similar order runs as early as it can, after those before it and from its release on.
+fn place_similar(jobs: &[Job], kept: &[bool; MAX_TASKS]) -> Vec<Run> {
+    let mut runs = Vec::with_capacity(jobs.len());
+    let mut free = 0;
+    for (job, &kept) in jobs.iter().zip(kept) {
+        let work = job.work(kept);
+        if work > 0 {
+            let start = job.release.max(free);
+            free = start + work;
+            runs.push(Run { start, end: free, task: job.position as u32 });
+        }
+    }
+    runs
+}
+
 /// Planning: marks by position, runs by start.
 pub fn plan(file: &[u8], marks: &mut [u8], starts: &mut [u32], ends: &mut [u32], tasks: &mut [u32]) -> Result<Plan, Refusal> {
-    let table = read(file)?;
-    let (jobs, n) = nest_order(&table);
+    let (table, kind) = read_with_kind(file)?;
+    let (jobs, n) = in_order(&table, kind);
     let jobs = &jobs[..n];
-    let mut mandatory = 0;
-    for job in jobs {
-        mandatory += job.mandatory;
-        if mandatory > job.deadline - job.release {
-            return refuse(8, job.position);
-        }
+    let unmet = match kind {
+        Kind::Nested => first_exceeding(jobs),
+        Kind::Similar => first_late(jobs),
+    };
+    if let Some(job) = unmet {
+        return refuse(8, job.position);
     }
     let most_runs = 2 * n - 1;
     if marks.len() < n || starts.len() < most_runs || ends.len() < most_runs || tasks.len() < most_runs {
         return refuse(9, 0);
     }
-    let kept = choose(jobs);
-    let runs = place(jobs, &kept);
+    let (kept, runs) = match kind {
+        Kind::Nested => {
+            let kept = choose_nested(jobs);
+            (kept, place_nested(jobs, &kept))
+        }
+        Kind::Similar => {
+            let kept = choose_similar(jobs);
+            (kept, place_similar(jobs, &kept))
+        }
+    };
     let mut plan = Plan { kept: 0, discarded: 0, runs: runs.len() };
     for (job, &kept) in jobs.iter().zip(&kept) {
         marks[job.position] = u8::from(kept);

@@ -69,7 +69,7 @@ fn both(mut proved: impl FnMut(), mut reference: impl FnMut()) -> (f64, f64) {
 fn line(name: &str, target: f64, (proved, reference): (f64, f64)) {
     let ratio = proved / reference;
     let word = if ratio <= target { "" } else { "  above" };
-    println!("{name:<52} {proved:>10.3} {reference:>10.3} {ratio:>7.2} {target:>7.1}{word}");
+    println!("{name:<74} {proved:>10.3} {reference:>10.3} {ratio:>7.2} {target:>7.1}{word}");
 }
 
 fn table(tasks: &[Task]) -> Table {
@@ -78,12 +78,13 @@ fn table(tasks: &[Task]) -> Table {
     table
 }
 
-/// n nested windows at shuffled positions, each a frame wider on both sides than the next inside it. A frame lasts about 100 ticks.
-fn nest(n: usize, lengths: impl Fn(u32) -> (u32, u32)) -> Table {
+/// A table of n tasks at shuffled positions: their windows in frames and their lengths. A frame lasts about 100 ticks.
+fn shuffled(n: usize, window: impl Fn(u32) -> (u32, u32), lengths: impl Fn(u32) -> (u32, u32)) -> Table {
     let mut tasks: Vec<Task> = (0..n as u32)
         .map(|i| {
+            let (release, deadline) = window(i);
             let (mandatory, optional) = lengths(i);
-            Task { release: 7 + i, deadline: 7 + 2 * n as u32 - i, mandatory, optional }
+            Task { release, deadline, mandatory, optional }
         })
         .collect();
     let mut random = Random::new(1);
@@ -91,6 +92,16 @@ fn nest(n: usize, lengths: impl Fn(u32) -> (u32, u32)) -> Table {
         tasks.swap(i, random.index(i + 1));
     }
     table(&tasks)
+}
+
+/// n nested windows, each a frame wider on both sides than the next inside it.
+fn nest(n: usize, lengths: impl Fn(u32) -> (u32, u32)) -> Table {
+    shuffled(n, |i| (7 + i, 7 + 2 * n as u32 - i), lengths)
+}
+
+/// n similar windows of three frames, each a frame later than the one before it.
+fn sequence(n: usize, lengths: impl Fn(u32) -> (u32, u32)) -> Table {
+    shuffled(n, |i| (7 + i, 10 + i), lengths)
 }
 
 /// Everything fits: 200 ticks more in each window, at most 180 of work.
@@ -111,6 +122,16 @@ fn most_runs(n: usize) -> Table {
 /// Each task leaves a gap below its run, and the outermost fills all of them.
 fn most_gaps(n: usize) -> Table {
     nest(n, |i| if i == 0 { (160 * n as u32, 10) } else { (20, 10) })
+}
+
+/// Everything fits: at most 98 ticks of work in each frame.
+fn similar_loose(n: usize) -> Table {
+    sequence(n, |i| (20 + i * 7 % 41, 10 + i * 13 % 29))
+}
+
+/// Mandatory parts take half of the ticks, and many optional parts don't fit.
+fn similar_tight(n: usize) -> Table {
+    sequence(n, |i| (30 + i * 7 % 41, 60 + i * 37 % 97))
 }
 
 /// Lists to lend, never cleared between calls.
@@ -167,11 +188,15 @@ fn main() {
     println!("Processor time of one call in microseconds: medians of {BATCHES} batches of about 0.5 ms for each side, the two in turn.");
     println!("Lent lists are filled once before the first call and not cleared between calls.");
     println!();
-    println!("{:<52} {:>10} {:>10} {:>7} {:>7}", "", "proved", "reference", "ratio", "target");
+    println!("{:<74} {:>10} {:>10} {:>7} {:>7}", "", "proved", "reference", "ratio", "target");
 
     for (name, table) in [("loose", loose(64)), ("tight", tight(64)), ("most runs", most_runs(64)), ("most gaps", most_gaps(64))] {
         let (said, _, _) = planned(&table);
         line(&format!("plan 64, {name} ({said})"), 1.5, plan(&inputs::pack(&table)));
+    }
+    for (name, table) in [("everything fits", similar_loose(64)), ("many parts dropped", similar_tight(64))] {
+        let (said, _, _) = planned(&table);
+        line(&format!("plan 64 similar tasks, {name} ({said})"), 1.2, plan(&inputs::pack(&table)));
     }
 
     let full = tight(64);
@@ -232,6 +257,11 @@ fn main() {
         let (said, _, _) = planned(&table);
         line(&format!("plan {n} ({said})"), 1.5, plan(&inputs::pack(&table)));
     }
+    for n in [8, 16, 32, 64] {
+        let table = similar_tight(n);
+        let (said, _, _) = planned(&table);
+        line(&format!("plan {n} similar tasks ({said})"), if n == 64 { 1.2 } else { 2.5 }, plan(&inputs::pack(&table)));
+    }
 
     println!();
     println!("Stack of each call of the proved library in bytes, measured on a painted area (64 tasks, 500 bytes, 127 runs):");
@@ -245,8 +275,12 @@ fn main() {
         ("planner_plan", stack::plan(&file, &mut lists.marks, &mut lists.starts, &mut lists.ends, &mut lists.tasks)),
         ("planner_judge", stack::judge(&file, &lists.marks, &lists.starts, &lists.ends, &lists.tasks)),
         ("planner_busy", stack::busy(&lists.starts, &lists.ends, &lists.tasks, 0, 9000)),
+        (
+            "planner_plan of similar tasks",
+            stack::plan(&inputs::pack(&similar_tight(64)), &mut lists.marks, &mut lists.starts, &mut lists.ends, &mut lists.tasks),
+        ),
     ];
     for (name, measured) in uses {
-        println!("{name:<16} {:>6} of its own, {:>5} for arguments that its caller passes in memory", measured.own, measured.arguments);
+        println!("{name:<30} {:>6} of its own, {:>5} for arguments that its caller passes in memory", measured.own, measured.arguments);
     }
 }

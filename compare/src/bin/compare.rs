@@ -4,9 +4,9 @@
 
 use planner_compare::brute;
 use planner_compare::ffi::{self, BusyCount, Judged, Planned, TableRead, Written};
-use planner_compare::inputs::{self, lent_length, Load};
+use planner_compare::inputs::{self, lent_length, Load, Shape};
 use planner_compare::random::Random;
-use planner_compare::reference::{self, deadline_tick, release_tick, Table, LAST_FRAME};
+use planner_compare::reference::{self, deadline_tick, release_tick, Kind, Table, LAST_FRAME};
 use std::fmt::Debug;
 use std::process::ExitCode;
 use std::time::Instant;
@@ -75,7 +75,11 @@ fn compare_read(random: &mut Random) -> Outcome {
 }
 
 fn compare_write(random: &mut Random) -> Outcome {
-    let table = if random.once_in(2) { inputs::table(random) } else { inputs::faulty_table(random) };
+    let table = match random.up_to(7) {
+        0..=3 => inputs::table(random),
+        4 => inputs::mixed_table(random),
+        _ => inputs::faulty_table(random),
+    };
     let needed = reference::file_length((table.count as usize).min(64));
     let length = lent_length(random, needed);
     let mut out = bytes(random, length);
@@ -152,7 +156,7 @@ fn compare_plan(random: &mut Random) -> Outcome {
         let owed = Judged { number: 0, place: 0, yes: true, kept: proved.kept, discarded: proved.discarded };
         same("judge of the plan", &said, &owed, input)?;
     }
-    Ok(if proved.discarded > 0 { DROPPED } else { proved.number })
+    Ok(plan_outcome(&file, proved))
 }
 
 fn compare_judge(random: &mut Random) -> Outcome {
@@ -200,14 +204,18 @@ fn compare_busy(random: &mut Random) -> Outcome {
     Ok(proved.number)
 }
 
-/// A small table with few ticks.
+/// A small table with few ticks, of either kind, of both or of neither.
 fn small_table(random: &mut Random) -> Table {
     loop {
         let n = random.between(1, 8) as usize;
         let q = random.between(1, 4);
         let p = random.between(q, 3 * q);
+        let shape = random.pick(&[Shape::Nested, Shape::Similar, Shape::Similar, Shape::Both]);
         let load = random.pick(&[Load::Tight, Load::Few, Load::Few, Load::Any]);
-        let mut table = inputs::nested_table(random, n, (p, q), load);
+        let mut table = inputs::shaped_table(random, n, (p, q), shape, load);
+        if random.once_in(8) {
+            inputs::set_against(random, &mut table);
+        }
         let lowest = table.tasks().iter().map(|task| task.release).min().unwrap_or(0);
         let to = random.up_to(4);
         for task in &mut table.tasks[..n] {
@@ -219,7 +227,8 @@ fn small_table(random: &mut Random) -> Table {
             }
         }
         let ticks = |task: &reference::Task| deadline_tick(task.deadline, p, q) - release_tick(task.release, p, q);
-        if table.tasks().iter().all(|task| ticks(task) <= 60) {
+        let last = table.tasks().iter().map(|task| deadline_tick(task.deadline, p, q)).max().unwrap_or(0);
+        if table.tasks().iter().all(|task| ticks(task) <= 60) && last <= 200 {
             return table;
         }
     }
@@ -237,7 +246,7 @@ fn compare_brute(random: &mut Random) -> Outcome {
             let said = Planned { number: 0, place: 0, kept: best.kept, discarded: best.discarded, runs: best.runs.len() };
             (best.marks, best.runs, said)
         }
-        Err(place) => (vec![9; n], vec![], Planned { number: 8, place, kept: 0, discarded: 0, runs: 0 }),
+        Err((number, place)) => (vec![9; n], vec![], Planned { number, place, kept: 0, discarded: 0, runs: 0 }),
     };
     for (name, plan) in PLANNERS {
         let (said, got_marks, got_runs) = plan_with(plan, &file, n);
@@ -248,7 +257,7 @@ fn compare_brute(random: &mut Random) -> Outcome {
             ));
         }
     }
-    Ok(if expected.number == 0 && expected.discarded > 0 { DROPPED } else { expected.number })
+    Ok(plan_outcome(&file, expected))
 }
 
 /// A planner that replies as the C interface does.
@@ -289,9 +298,21 @@ fn samples() -> Result<usize, String> {
         ("P6", file(100, 1, &[(0, 2, 201, 0)]), refused(8, 0, 1)),
         ("P7", file(100, 1, &[(0, 2, 0, 0)]), planned(0, 0, &[1], &[])),
         ("P8", file(1, 1, three), planned(2, 1, &[1, 0, 1], &[(2, 4, 0), (4, 6, 2), (6, 7, 0), (7, 8, 1), (8, 10, 0)])),
-        ("P9", file(1, 1, &[(0, 5, 0, 0), (5, 9, 0, 0)]), refused(7, 1, 2)),
+        ("P9", file(1, 1, &[(0, 5, 2, 3), (5, 9, 1, 2)]), planned(2, 0, &[1, 1], &[(0, 5, 0), (5, 8, 1)])),
         ("P10", file(1, 1, &[(0, 4, 0, 3), (0, 4, 0, 3)]), planned(1, 1, &[0, 1], &[(1, 4, 1)])),
         ("P11", file(5, 4, &[(1, 2, 1, 0)]), refused(8, 0, 1)),
+        // Similar tables. Of two parts that don't both fit the one of the later task is kept, though it is longer.
+        ("the last keeps", file(1, 1, &[(2, 6, 1, 3), (0, 4, 1, 2)]), planned(1, 1, &[1, 0], &[(0, 1, 1), (2, 6, 0)])),
+        // Beside task 2's part one of the two others fits: that of task 1, the later, though with task 0's all would end earlier.
+        ("not the least end", file(1, 1, &[(0, 4, 0, 1), (0, 5, 0, 4), (1, 7, 1, 2)]), planned(2, 1, &[0, 1, 1], &[(0, 4, 1), (4, 7, 2)])),
+        // A task of no work is not tested against its window, which has no ticks.
+        ("no work", file(5, 4, &[(1, 2, 0, 0), (2, 4, 1, 0)]), planned(0, 0, &[1, 1], &[(3, 4, 1)])),
+        ("no work and no room", file(5, 4, &[(1, 2, 0, 1), (2, 4, 1, 0)]), planned(0, 1, &[0, 1], &[(3, 4, 1)])),
+        // Task 0 runs first, and then task 2 ends too late.
+        ("place of 8", file(1, 1, &[(0, 3, 3, 0), (2, 9, 1, 0), (1, 4, 2, 0)]), refused(8, 2, 3)),
+        // Tasks 0 and 1 are similar and not nested, tasks 0 and 2 nested and not similar.
+        ("place of 7", file(1, 1, &[(0, 5, 0, 0), (5, 9, 0, 0), (1, 4, 0, 0)]), refused(7, 2, 3)),
+        ("place of 7, nested first", file(1, 1, &[(0, 5, 0, 0), (1, 4, 0, 0), (0, 5, 0, 0), (5, 9, 0, 0)]), refused(7, 3, 4)),
     ];
     for (name, file, expected) in &plans {
         for (planner, plan) in PLANNERS {
@@ -310,9 +331,25 @@ fn samples() -> Result<usize, String> {
     Ok(2 * plans.len() + 4)
 }
 
-/// Outcomes counted apart beside the refusals: a judge's yes; a plan that discards.
+/// Outcomes counted apart beside the refusals: a judge's yes; a plan of nested windows that discards; plans of similar windows.
 const YES: u32 = 20;
 const DROPPED: u32 = 21;
+const SIMILAR: u32 = 22;
+const SIMILAR_DROPPED: u32 = 23;
+
+/// The outcome of planning a file.
+fn plan_outcome(file: &[u8], said: Planned) -> u32 {
+    if said.number > 0 {
+        return said.number;
+    }
+    let similar = reference::read(file).is_ok_and(|table| reference::check_windows(table.tasks()) == Ok(Kind::Similar));
+    match (similar, said.discarded > 0) {
+        (false, false) => 0,
+        (false, true) => DROPPED,
+        (true, false) => SIMILAR,
+        (true, true) => SIMILAR_DROPPED,
+    }
+}
 
 struct Call {
     name: &'static str,
@@ -342,7 +379,7 @@ fn all() -> Result<(), String> {
     println!("{:<10} {:>7} cases, no difference", "samples", samples()?);
     let mut total = 0;
     for (index, call) in CALLS.iter().enumerate() {
-        let mut counts = [0u64; 22];
+        let mut counts = [0u64; 24];
         for seed in 0..call.cases {
             counts[case(index, seed)? as usize] += 1;
         }
@@ -351,10 +388,12 @@ fn all() -> Result<(), String> {
             .filter(|&number| counts[number] > 0)
             .map(|number| match (call.name, number) {
                 ("judge" | "judge-long", 0) => format!("no: {}", counts[0]),
-                ("plan" | "brute", 0) => format!("all kept: {}", counts[0]),
+                ("plan" | "brute", 0) => format!("nested, all kept: {}", counts[0]),
                 (_, 0) => format!("accepted: {}", counts[0]),
                 (_, 20) => format!("yes: {}", counts[20]),
-                (_, 21) => format!("some discarded: {}", counts[21]),
+                (_, 21) => format!("nested, some discarded: {}", counts[21]),
+                (_, 22) => format!("similar, all kept: {}", counts[22]),
+                (_, 23) => format!("similar, some discarded: {}", counts[23]),
                 _ => format!("refusal {number}: {}", counts[number]),
             })
             .collect();
