@@ -9,7 +9,7 @@ use Rattle.base.specs.Tests.{and}
 use Rattle.base.proofs.TestLaws.{and-left, and-right, pick-cases, and-not-second}
 use Rattle.schedule.specs.declared.Job.{Job}
 use Rattle.choice.specs.Choice.{keepLists, keepNone, lexLess, better, best, bestList}
-use Rattle.choice.proofs.LexLaws.{LexAtMost, atMost-refl, atMost-trans, less→atMost, notLess→atMost}
+use Rattle.choice.proofs.LexLaws.{LexAtMost, atMost-refl, atMost-trans, less→atMost, notLess→atMost, atMost-same}
 
 -- a candidate that passes the test of fitting, and whose key is at most that of every candidate that does
 pub record Best {A : Type 0} (passes : A → Bool) (key : A → List ℕ) (a : A) : Type 0 where
@@ -78,3 +78,8 @@ best-of-all fit key jobs none marks =
       fit = best-fits fit key _ (keepLists jobs) none;
       least = λ other e. best-others fit key _ (keepLists jobs) other (length-among jobs other (marks other e)) e;
     }
+
+-- There is one best at most, where different candidates have different keys.
+pub best-one : {A : Type 0} (fit : A → Bool) (key : A → List ℕ) → ((a b : A) → key a ≡ key b → a ≡ b) → (a b : A) → Best fit key a → Best fit key b
+    → a ≡ b
+best-one fit key apart a b p q = apart a b (atMost-same (key a) (key b) (p .least b (q .fit)) (q .least a (p .fit)))

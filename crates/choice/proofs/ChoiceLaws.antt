@@ -12,8 +12,8 @@ use Rattle.schedule.specs.Jobs.{noJob, counts}
 use Rattle.choice.specs.Choice.{fits, keepNone, keptTicks, discardedWorth, keptWorth, key, chosenBy, MeetsRules, counted, chosen, ZeroKept}
 use Rattle.choice.specs.Programme.{outermostTicks, allWorth, row, backtrack, bestWorth, byRows}
 use Rattle.choice.proofs.LexLaws.{LexAtMost}
-use Rattle.choice.proofs.BestLaws.{Best, best-of-all}
-use Rattle.choice.proofs.TieLaws.{marks-same, marks-least, atMost-first}
+use Rattle.choice.proofs.BestLaws.{Best, best-of-all, best-one}
+use Rattle.choice.proofs.TieLaws.{marks-apart, marks-least, atMost-first}
 use Rattle.choice.proofs.FitLaws.{fits-length, none-fits, ticks-outermost, worth-split}
 use Rattle.choice.proofs.ProgrammeLaws.{Keeps, row-least, backtrack-keeps, backtrack-first, greatest-is, backtrack-zero}
 
@@ -24,13 +24,8 @@ module _ (worth : Job → ℕ) where
 
   -- there is one such list at most
   pub best-unique : (jobs : List Job) (a b : List Bool) → BestOf jobs a → BestOf jobs b → a ≡ b
-  unfolding LexAtMost key
-  best-unique jobs a b p q =
-      let l = p .least b (q .fit) in
-      let m = q .least a (p .fit) in
-      let d : discardedWorth worth jobs a ≡ discardedWorth worth jobs b = omega arith in
-      let t : keptTicks jobs a ≡ keptTicks jobs b = omega (arith, l .1 d, m .1 (sym d)) in
-      marks-same a b (l .1 d .1 t) (m .1 (sym d) .1 (sym t))
+  unfolding key
+  best-unique jobs a b p q = best-one (fits jobs) (key worth jobs) (λ x y e. marks-apart x y (cc)) a b p q
 
   -- it is the list that the rules take
   pub best-meets : (jobs : List Job) (keeps : List Bool) → BestOf jobs keeps → MeetsRules worth jobs keeps

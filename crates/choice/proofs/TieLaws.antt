@@ -1,4 +1,5 @@
 -- Laws of the marks of two lists: the lesser in the lexicographic order is the one that keeps at the first place where they differ.
+use Prim.Native.Nat.{ℕ}
 use mathlib.Core.Path.{_≡_, refl, ap}
 use mathlib.Core.Logic.{_⊎_, inl, inr}
 use mathlib.Core.List.{List, [], _∷_, _++_}
@@ -8,16 +9,15 @@ use lib.ListN.{length}
 use Rattle.choice.specs.Choice.{discardMarks, KeepsFirst}
 use Rattle.choice.proofs.LexLaws.{LexAtMost, atMost-refl}
 
--- marks that are at most one another are the same
-pub marks-same : (a b : List Bool) → LexAtMost (discardMarks a) (discardMarks b) → LexAtMost (discardMarks b) (discardMarks a) → a ≡ b
-unfolding LexAtMost
-marks-same [] [] p q = refl
-marks-same [] (y ∷ b) p q = absurd q
-marks-same (x ∷ a) [] p q = absurd p
-marks-same (true ∷ a) (true ∷ b) p q = ap (λ l. true ∷ l) (marks-same a b (p .1 refl) (q .1 refl))
-marks-same (true ∷ a) (false ∷ b) p q = absurd (omega arith)
-marks-same (false ∷ a) (true ∷ b) p q = absurd (omega arith)
-marks-same (false ∷ a) (false ∷ b) p q = ap (λ l. false ∷ l) (marks-same a b (p .1 refl) (q .1 refl))
+-- different lists have different marks
+pub marks-apart : (a b : List Bool) → discardMarks a ≡ discardMarks b → a ≡ b
+marks-apart [] [] e = refl
+marks-apart [] (y ∷ b) e = let z : _≡_ {A = ℕ} 0 1 = cc in absurd (omega arith)
+marks-apart (x ∷ a) [] e = let z : _≡_ {A = ℕ} 0 1 = cc in absurd (omega arith)
+marks-apart (true ∷ a) (true ∷ b) e = ap (λ l. true ∷ l) (marks-apart a b (cc))
+marks-apart (true ∷ a) (false ∷ b) e = let z : _≡_ {A = ℕ} 0 1 = cc in absurd (omega arith)
+marks-apart (false ∷ a) (true ∷ b) e = let z : _≡_ {A = ℕ} 0 1 = cc in absurd (omega arith)
+marks-apart (false ∷ a) (false ∷ b) e = ap (λ l. false ∷ l) (marks-apart a b (cc))
 
 -- of two lists with the same marks up to a place, the one that keeps there has the lesser marks
 pub split-atMost : (same restA restB : List Bool) → LexAtMost (discardMarks (same ++ true ∷ restA)) (discardMarks (same ++ false ∷ restB))

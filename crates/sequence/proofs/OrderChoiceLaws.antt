@@ -12,8 +12,8 @@ use Rattle.base.proofs.MemberLaws.{all-map}
 use Rattle.choice.specs.Choice.{keepNone, discardedWorth, keptWorth, ZeroKept, countOne}
 use Rattle.choice.specs.Programme.{allWorth}
 use Rattle.choice.proofs.LexLaws.{LexAtMost}
-use Rattle.choice.proofs.BestLaws.{Best, best-of-all}
-use Rattle.choice.proofs.TieLaws.{marks-same, marks-least, atMost-first}
+use Rattle.choice.proofs.BestLaws.{Best, best-of-all, best-one}
+use Rattle.choice.proofs.TieLaws.{marks-apart, marks-least, atMost-first}
 use Rattle.choice.proofs.FitLaws.{worth-split}
 use Rattle.choice.proofs.ProgrammeLaws.{greatest-is}
 use Rattle.choice.proofs.ChoiceLaws.{counted-zero}
@@ -40,12 +40,8 @@ module _ (worth : Job → ℕ) where
 
   -- there is one such list at most
   pub order-unique : (jobs : List Job) (a b : List Bool) → BestInOrder jobs a → BestInOrder jobs b → a ≡ b
-  unfolding LexAtMost orderKey
-  order-unique jobs a b p q =
-      let l = p .least b (q .fit) in
-      let m = q .least a (p .fit) in
-      let d : discardedWorth worth jobs a ≡ discardedWorth worth jobs b = omega arith in
-      marks-same a b (l .1 d) (m .1 (sym d))
+  unfolding orderKey
+  order-unique jobs a b p q = best-one (fitsInOrder jobs) (orderKey worth jobs) (λ x y e. marks-apart x y (cc)) a b p q
 
   -- it is the list that the rules take
   pub best-meets : (jobs : List Job) (keeps : List Bool) → BestInOrder jobs keeps → MeetsOrderRules worth jobs keeps
