@@ -1,5 +1,5 @@
 -- The limits of the planner, named once for every definition. The code's names for the same numbers are the constants of src/lib.rt.
-use Prim.Native.Nat.{ℕ, _-_, _*_}
+use Prim.Native.Nat.{ℕ, _+_, _-_, _*_}
 
 -- the most tasks of a table, and the places of a table value
 abbrev pub maxTasks : ℕ
@@ -25,6 +25,10 @@ maxPeriod = 4_095
 abbrev pub maxTicks : ℕ
 maxTicks = 16_383
 
--- the greatest tick that a frame can mean: the last frame at the longest period
+-- the greatest launch tick: the last tick of a day of 24 hours
+abbrev pub maxLaunch : ℕ
+maxLaunch = 86_399_999
+
+-- the greatest tick that a frame can mean: the last frame at the longest period, after the greatest launch tick
 abbrev pub lastTick : ℕ
-lastTick = lastFrame * maxPeriod
+lastTick = lastFrame * maxPeriod + maxLaunch

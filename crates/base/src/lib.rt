@@ -18,3 +18,6 @@ pub const MAX_PERIOD: u32 = 4_095;
 
 // The greatest length of a mandatory or an optional part in ticks.
 pub const MAX_TICKS: u32 = 16_383;
+
+// The greatest launch tick: the last tick of a day of 24 hours.
+pub const MAX_LAUNCH: u32 = 86_399_999;

@@ -2,37 +2,54 @@
 use Prim.Native.Nat.{ℕ, zero, suc, _+_, _-_, _*_, _/_, _%_, _^_, _≤_, _<_}
 use mathlib.Core.Path.{_≡_, refl}
 use mathlib.Core.Bool.{true}
-use native.Mathlib.Nat.{mul-le-mul, mul-le-mul-right, add-mul, add-mul-div-right, div-zero, div-add-mod', div-le-self, div-mul-le-self, div-lt-iff-lt-mul, le-div-iff-mul-le, lt-div-mul-add}
+use native.Mathlib.Nat.{le-refl, mul-le-mul, mul-le-mul-right, add-mul, add-mul-div-right, div-zero, div-add-mod', div-le-self, div-mul-le-self, div-lt-iff-lt-mul, le-div-iff-mul-le, lt-div-mul-add}
 use native.Mathlib.Omega.{arith}
-use Rattle.base.specs.Limits.{lastFrame, maxPeriod}
-use Rattle.clock.specs.Clock.{LegalPeriod, releaseTick, deadlineTick}
+use Rattle.base.specs.Limits.{lastFrame, maxPeriod, maxLaunch, lastTick}
+use Rattle.clock.specs.Clock.{LegalPeriod, releaseOffset, deadlineOffset, releaseTick, deadlineTick}
 use Rattle.clock.specs.ClockSamples.{clockSamples, sampleHolds, everySampleHolds}
 
 -- The clock gives both ticks of every sample: P1 to P3 of document 01.
 pub clock-samples : everySampleHolds clockSamples ≡ true
-unfolding releaseTick deadlineTick sampleHolds everySampleHolds
+unfolding releaseOffset deadlineOffset releaseTick deadlineTick sampleHolds everySampleHolds
 clock-samples = refl
 
--- The release tick is not before f × p / q.
-pub release-not-before : (p q f : ℕ) → 1 ≤ q → f * p ≤ releaseTick p q f * q
+-- With launch tick 0 the clock is document 01's, and a launch tick makes every tick later by it.
+pub release-launch-0 : (p q f : ℕ) → releaseTick 0 p q f ≡ releaseOffset p q f
 unfolding releaseTick
+release-launch-0 p q f = omega arith
+
+pub deadline-launch-0 : (p q f : ℕ) → deadlineTick 0 p q f ≡ deadlineOffset p q f
+unfolding deadlineTick
+deadline-launch-0 p q f = omega arith
+
+pub release-later : (launch p q f : ℕ) → releaseTick launch p q f ≡ releaseTick 0 p q f + launch
+unfolding releaseTick
+release-later launch p q f = omega arith
+
+pub deadline-later : (launch p q f : ℕ) → deadlineTick launch p q f ≡ deadlineTick 0 p q f + launch
+unfolding deadlineTick
+deadline-later launch p q f = omega arith
+
+-- Counted from the launch, the release tick is not before f × p / q.
+pub release-not-before : (p q f : ℕ) → 1 ≤ q → f * p ≤ releaseOffset p q f * q
+unfolding releaseOffset
 release-not-before p q f positive = omega (arith, lt-div-mul-add {a = f * p + (q - 1)} positive)
 
 -- It is the least tick not before f × p / q.
-pub release-least : (p q f t : ℕ) → 1 ≤ q → f * p ≤ t * q → releaseTick p q f ≤ t
-unfolding releaseTick
+pub release-least : (p q f t : ℕ) → 1 ≤ q → f * p ≤ t * q → releaseOffset p q f ≤ t
+unfolding releaseOffset
 release-least p q f t positive reaches =
     let below : f * p + (q - 1) < (t + 1) * q = omega (arith, add-mul t 1 q) in
     omega (arith, div-lt-iff-lt-mul positive .1 below)
 
--- The deadline tick is not after f × p / q.
-pub deadline-not-after : (p q f : ℕ) → 1 ≤ q → deadlineTick p q f * q ≤ f * p
-unfolding deadlineTick
+-- Counted from the launch, the deadline tick is not after f × p / q.
+pub deadline-not-after : (p q f : ℕ) → 1 ≤ q → deadlineOffset p q f * q ≤ f * p
+unfolding deadlineOffset
 deadline-not-after p q f positive = div-mul-le-self (f * p) q
 
 -- It is the greatest tick not after f × p / q.
-pub deadline-greatest : (p q f t : ℕ) → 1 ≤ q → t * q ≤ f * p → t ≤ deadlineTick p q f
-unfolding deadlineTick
+pub deadline-greatest : (p q f t : ℕ) → 1 ≤ q → t * q ≤ f * p → t ≤ deadlineOffset p q f
+unfolding deadlineOffset
 deadline-greatest p q f t positive within = le-div-iff-mul-le positive .1 within
 
 -- Division keeps the order, by 0 too.
@@ -44,14 +61,14 @@ div-monotone (suc k) m n h =
     le-div-iff-mul-le positive .1 within
 
 -- A later frame has no earlier release tick.
-pub release-monotone : (p q f g : ℕ) → f ≤ g → releaseTick p q f ≤ releaseTick p q g
-unfolding releaseTick
-release-monotone p q f g h = div-monotone q (f * p + (q - 1)) (g * p + (q - 1)) (omega (arith, mul-le-mul-right p h))
+pub release-monotone : (launch p q f g : ℕ) → f ≤ g → releaseTick launch p q f ≤ releaseTick launch p q g
+unfolding releaseTick releaseOffset
+release-monotone launch p q f g h = omega (arith, div-monotone q (f * p + (q - 1)) (g * p + (q - 1)) (omega (arith, mul-le-mul-right p h)))
 
 -- A later frame has no earlier deadline tick.
-pub deadline-monotone : (p q f g : ℕ) → f ≤ g → deadlineTick p q f ≤ deadlineTick p q g
-unfolding deadlineTick
-deadline-monotone p q f g h = div-monotone q (f * p) (g * p) (mul-le-mul-right p h)
+pub deadline-monotone : (launch p q f g : ℕ) → f ≤ g → deadlineTick launch p q f ≤ deadlineTick launch p q g
+unfolding deadlineTick deadlineOffset
+deadline-monotone launch p q f g h = omega (arith, div-monotone q (f * p) (g * p) (mul-le-mul-right p h))
 
 -- A multiple of the divisor can be split off before the division.
 div-add-multiple : (q m n : ℕ) → 1 ≤ q → n % q ≡ 0 → (m + n) / q ≡ m / q + n / q
@@ -61,28 +78,51 @@ div-add-multiple q m n positive multiple =
     rw split (add-mul-div-right m (n / q) positive)
 
 -- A shift by s frames, where s × p is a multiple of q, shifts the release tick by s × p / q.
-pub release-shift : (p q f s : ℕ) → 1 ≤ q → (s * p) % q ≡ 0 → releaseTick p q (f + s) ≡ releaseTick p q f + s * p / q
-unfolding releaseTick
-release-shift p q f s positive multiple =
+pub release-shift : (launch p q f s : ℕ) → 1 ≤ q → (s * p) % q ≡ 0 → releaseTick launch p q (f + s) ≡ releaseTick launch p q f + s * p / q
+unfolding releaseTick releaseOffset
+release-shift launch p q f s positive multiple =
     let split : (f + s) * p + (q - 1) ≡ f * p + (q - 1) + s * p = omega (arith, add-mul f s p) in
-    rw split (div-add-multiple q (f * p + (q - 1)) (s * p) positive multiple)
+    rw split (omega (arith, div-add-multiple q (f * p + (q - 1)) (s * p) positive multiple))
 
 -- The same shift of the frame shifts the deadline tick by s × p / q.
-pub deadline-shift : (p q f s : ℕ) → 1 ≤ q → (s * p) % q ≡ 0 → deadlineTick p q (f + s) ≡ deadlineTick p q f + s * p / q
-unfolding deadlineTick
-deadline-shift p q f s positive multiple = rw add-mul (div-add-multiple q (f * p) (s * p) positive multiple)
+pub deadline-shift : (launch p q f s : ℕ) → 1 ≤ q → (s * p) % q ≡ 0 → deadlineTick launch p q (f + s) ≡ deadlineTick launch p q f + s * p / q
+unfolding deadlineTick deadlineOffset
+deadline-shift launch p q f s positive multiple = rw add-mul (omega (arith, div-add-multiple q (f * p) (s * p) positive multiple))
 
--- A frame times p fits 32 bits.
-pub product-fits : {f p : ℕ} → f ≤ lastFrame + 1 → p ≤ maxPeriod → f * p < 2 ^ 32
-product-fits h small = omega (arith, mul-le-mul h small)
+-- the greatest number that the clock divides: the tick at which the last frame ends, times q, and a number up to 4,095
+abbrev greatest : ℕ
+greatest = (lastFrame + 1) * maxPeriod + maxPeriod
 
--- That product with a number up to 4,095 added fits 32 bits.
-pub sum-fits : {f p r : ℕ} → f ≤ lastFrame + 1 → p ≤ maxPeriod → r ≤ maxPeriod → f * p + r < 2 ^ 32
-sum-fits h small rest = omega (arith, mul-le-mul h small)
+-- A frame times p is at most that, and so is it with a number up to 4,095 added.
+pub product-few : {f p : ℕ} → f ≤ lastFrame + 1 → p ≤ maxPeriod → f * p ≤ greatest
+product-few h small = omega (arith, mul-le-mul h small)
 
--- Both ticks of a frame fit 32 bits.
-pub ticks-fit : {p q f : ℕ} → LegalPeriod p q → f ≤ lastFrame + 1 → (releaseTick p q f < 2 ^ 32) × (deadlineTick p q f < 2 ^ 32)
-unfolding releaseTick deadlineTick
-ticks-fit {p} {q} {f} legal h =
-    let sum : f * p + (q - 1) < 2 ^ 32 = sum-fits h (legal .small) (omega arith) in
-    (omega (arith, div-le-self (f * p + (q - 1)) q), omega (arith, div-le-self (f * p) q))
+pub sum-few : {f p r : ℕ} → f ≤ lastFrame + 1 → p ≤ maxPeriod → r ≤ maxPeriod → f * p + r ≤ greatest
+sum-few h small rest = omega (arith, mul-le-mul h small)
+
+-- Such a number fits 32 bits, and so does it divided and with an accepted launch tick added.
+pub number-fits : {x : ℕ} → x ≤ greatest → x < 2 ^ 32
+number-fits few = omega arith
+
+pub tick-fits : {x launch : ℕ} (q : ℕ) → x ≤ greatest → launch ≤ maxLaunch → x / q + launch < 2 ^ 32
+tick-fits {x} q few low = omega (arith, div-le-self x q)
+
+-- Both ticks of a frame fit 32 bits at every accepted launch tick.
+pub ticks-fit : (launch p q f : ℕ) → launch ≤ maxLaunch → LegalPeriod p q → f ≤ lastFrame + 1
+    → (releaseTick launch p q f < 2 ^ 32) × (deadlineTick launch p q f < 2 ^ 32)
+unfolding releaseTick deadlineTick releaseOffset deadlineOffset
+ticks-fit launch p q f low legal h =
+    (tick-fits q (sum-few h (legal .small) (omega arith)) low, tick-fits q (product-few h (legal .small)) low)
+
+-- Those of a frame that a table can name are at most the greatest tick, which fits 32 bits.
+pub ticks-bounded : (launch p q f : ℕ) → launch ≤ maxLaunch → LegalPeriod p q → f ≤ lastFrame
+    → (releaseTick launch p q f ≤ lastTick) × (deadlineTick launch p q f ≤ lastTick)
+unfolding releaseTick deadlineTick deadlineOffset
+ticks-bounded launch p q f low legal h =
+    let product : f * p ≤ lastFrame * maxPeriod = mul-le-mul h (legal .small) in
+    let more : f * p * 1 ≤ f * p * q = mul-le-mul (le-refl (f * p)) (legal .positive) in
+    let least = release-least p q f (f * p) (legal .positive) (omega (arith, more)) in
+    (omega arith, omega (arith, div-le-self (f * p) q))
+
+pub last-tick-fits : lastTick < 2 ^ 32
+last-tick-fits = omega arith

@@ -1,6 +1,8 @@
--- The frame clock of document 01. A period is two whole numbers p and q: one frame lasts p/q ticks, and frame 0 begins at tick 0.
+-- The frame clock of documents 01 and 02. A period is two whole numbers p and q: one frame lasts p/q ticks, and frame 0 begins at the launch tick.
 use Prim.Native.Nat.{ℕ, _+_, _-_, _*_, _/_, _≤_}
-use Rattle.base.specs.Limits.{maxPeriod}
+use mathlib.Core.Bool.{Bool}
+use lib.Dec.{ltb}
+use Rattle.base.specs.Limits.{maxPeriod, maxLaunch}
 
 -- each of p and q is 1 to 4,095, and p is at least q
 pub record LegalPeriod (p q : ℕ) : Type 0 where
@@ -8,10 +10,26 @@ pub record LegalPeriod (p q : ℕ) : Type 0 where
   pub ordered : q ≤ p
   pub small : p ≤ maxPeriod
 
+-- 14: 'the launch tick is above 86,399,999'
+abbrev pub badLaunch : ℕ → Bool
+badLaunch launch = ltb maxLaunch launch
+
+-- Ticks counted from the launch: document 01's clock, whose frame 0 begins at tick 0.
+
 -- a release in frame f: the least tick not before f × p / q
-unfoldable pub releaseTick : ℕ → ℕ → ℕ → ℕ
-releaseTick p q f = (f * p + (q - 1)) / q
+unfoldable pub releaseOffset : ℕ → ℕ → ℕ → ℕ
+releaseOffset p q f = (f * p + (q - 1)) / q
 
 -- a deadline in frame f: the greatest tick not after f × p / q
-unfoldable pub deadlineTick : ℕ → ℕ → ℕ → ℕ
-deadlineTick p q f = f * p / q
+unfoldable pub deadlineOffset : ℕ → ℕ → ℕ → ℕ
+deadlineOffset p q f = f * p / q
+
+-- Ticks of the station clock: 'The frame clock takes a launch tick, added to every tick it gives'.
+
+-- the tick of a release in frame f
+unfoldable pub releaseTick : ℕ → ℕ → ℕ → ℕ → ℕ
+releaseTick launch p q f = releaseOffset p q f + launch
+
+-- the tick of a deadline in frame f
+unfoldable pub deadlineTick : ℕ → ℕ → ℕ → ℕ → ℕ
+deadlineTick launch p q f = deadlineOffset p q f + launch

@@ -1,29 +1,31 @@
--- The samples of the frame clock in document 01.
+-- The samples of the frame clock in document 01, and P1's frame at a launch tick.
 use Prim.Native.Nat.{ℕ}
 use mathlib.Core.Bool.{Bool, true, _&&_}
 use mathlib.Core.List.{List, [], _∷_}
 use lib.Dec.{eqb}
 use Rattle.clock.specs.Clock.{releaseTick, deadlineTick}
 
--- a frame under the period p/q, with the ticks expected of a release and of a deadline in it
+-- a frame under the period p/q and a launch tick, with the ticks expected of a release and of a deadline in it
 pub record ClockSample : Type 0 where
+  pub launch : ℕ
   pub p : ℕ
   pub q : ℕ
   pub frame : ℕ
   pub release : ℕ
   pub deadline : ℕ
 
--- P1, P2 and P3
+-- P1, P2 and P3, and P1 at noon
 abbrev pub clockSamples : List ClockSample
 clockSamples =
-    record { p = 1001; q = 10; frame = 1; release = 101; deadline = 100 }
-    ∷ record { p = 1001; q = 10; frame = 72_000; release = 7_207_200; deadline = 7_207_200 }
-    ∷ record { p = 1001; q = 10; frame = 0; release = 0; deadline = 0 }
+    record { launch = 0; p = 1001; q = 10; frame = 1; release = 101; deadline = 100 }
+    ∷ record { launch = 0; p = 1001; q = 10; frame = 72_000; release = 7_207_200; deadline = 7_207_200 }
+    ∷ record { launch = 0; p = 1001; q = 10; frame = 0; release = 0; deadline = 0 }
+    ∷ record { launch = 43_200_000; p = 1001; q = 10; frame = 1; release = 43_200_101; deadline = 43_200_100 }
     ∷ []
 
 -- the clock gives both ticks of a sample
 unfoldable pub sampleHolds : ClockSample → Bool
-sampleHolds s = eqb (releaseTick (s .p) (s .q) (s .frame)) (s .release) && eqb (deadlineTick (s .p) (s .q) (s .frame)) (s .deadline)
+sampleHolds s = eqb (releaseTick (s .launch) (s .p) (s .q) (s .frame)) (s .release) && eqb (deadlineTick (s .launch) (s .p) (s .q) (s .frame)) (s .deadline)
 
 -- the clock gives both ticks of every sample
 unfoldable pub everySampleHolds : List ClockSample → Bool
