@@ -195,11 +195,21 @@ fn verdict_of(
     totals_exact(jobs, count, marks, totals)
 }
 
-// Judging on the table of an accepted file: 11, the length first, then 13, then the verdict.
-fn judge_table(table: Table, marks: &[u8], starts: &[u32], ends: &[u32], tasks: &[u32]) -> Judged
+// Judging on the table of an accepted file: 14, then 11, the length first, then 13, then the verdict.
+fn judge_table(
+    table: Table,
+    launch: u32,
+    marks: &[u8],
+    starts: &[u32],
+    ends: &[u32],
+    tasks: &[u32],
+) -> Judged
     requires { ⌜ Legal table ⌝ }
-    ensures { λ r. ⌜ r ≡ judgeTable table (now (marks .entry)) (now (starts .entry)) (now (ends .entry)) (now (tasks .entry)) ⌝ }
+    ensures { λ r. ⌜ r ≡ judgeTable launch table (now (marks .entry)) (now (starts .entry)) (now (ends .entry)) (now (tasks .entry)) ⌝ }
 {
+    if clock::bad_launch(launch) {
+        return declined(14, 0);
+    }
     let count = table.count as usize;
     if marks.len() != count {
         return declined(11, count);
@@ -211,7 +221,7 @@ fn judge_table(table: Table, marks: &[u8], starts: &[u32], ends: &[u32], tasks: 
     if schedule::bad_columns(starts, ends, tasks) {
         return declined(13, 0);
     }
-    let jobs = schedule::jobs_of(table);
+    let jobs = schedule::jobs_of(table, launch);
     if verdict_of(jobs, table.count, marks, starts, ends, tasks) {
         let kept = count_marked(jobs, table.count, marks, 1);
         let discarded = count_marked(jobs, table.count, marks, 0);
@@ -220,10 +230,17 @@ fn judge_table(table: Table, marks: &[u8], starts: &[u32], ends: &[u32], tasks: 
     says(false, 0, 0)
 }
 
-// Judging: any bytes, marks and columns get the reply of documents 01 and 02.
-pub fn judge(file: &[u8], marks: &[u8], starts: &[u32], ends: &[u32], tasks: &[u32]) -> Judged
-    ensures reply { λ r. ⌜ r ≡ judged (now (file .entry)) (now (marks .entry)) (now (starts .entry)) (now (ends .entry)) (now (tasks .entry)) ⌝ }
-    ensures sound { λ r. ⌜ Sound (now (file .entry)) (now (marks .entry)) (runsOf (now (starts .entry)) (now (ends .entry)) (now (tasks .entry))) r ⌝ }
+// Judging: any bytes, launch tick, marks and columns get the reply of documents 01 and 02.
+pub fn judge(
+    file: &[u8],
+    launch: u32,
+    marks: &[u8],
+    starts: &[u32],
+    ends: &[u32],
+    tasks: &[u32],
+) -> Judged
+    ensures reply { λ r. ⌜ r ≡ judged launch (now (file .entry)) (now (marks .entry)) (now (starts .entry)) (now (ends .entry)) (now (tasks .entry)) ⌝ }
+    ensures sound { λ r. ⌜ Sound launch (now (file .entry)) (now (marks .entry)) (runsOf (now (starts .entry)) (now (ends .entry)) (now (tasks .entry))) r ⌝ }
 {
     let read = reading::read(file);
     let answer = read.answer;
@@ -231,5 +248,5 @@ pub fn judge(file: &[u8], marks: &[u8], starts: &[u32], ends: &[u32], tasks: &[u
         return declined(answer.number(), answer.place());
     };
     let table = read.table;
-    judge_table(table, marks, starts, ends, tasks)
+    judge_table(table, launch, marks, starts, ends, tasks)
 }

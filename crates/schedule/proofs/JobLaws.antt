@@ -1,28 +1,14 @@
 -- Laws of the jobs of a table.
-use Prim.Native.Nat.{ℕ, _*_, _≤_, _<_}
+use Prim.Native.Nat.{ℕ, _≤_, _<_}
 use native.Mathlib.Omega.{arith}
-use native.Mathlib.Nat.{mul-le-mul, le-refl, le-trans, div-le-self}
-use Rattle.base.specs.Limits.{lastFrame, maxPeriod, lastTick}
+use Rattle.base.specs.Limits.{lastFrame, maxLaunch, lastTick}
 use Rattle.clock.specs.Clock.{releaseTick, deadlineTick, LegalPeriod}
-use Rattle.clock.proofs.ClockLaws.{release-least}
+use Rattle.clock.proofs.ClockLaws.{ticks-bounded}
 use Rattle.table.specs.declared.Table.{Table}
 use Rattle.table.specs.Tables.{taskAt}
 use Rattle.table.specs.Writing.{Legal}
 use Rattle.table.proofs.FileLaws.{narrow-known, period-known}
 use Rattle.schedule.specs.Jobs.{jobOf, jobAt, Bounded}
-
--- the tick of a frame is at most the greatest
-frame-ticks : (f p : ℕ) → f ≤ lastFrame → p ≤ maxPeriod → f * p ≤ lastTick
-frame-ticks f p a b = omega (arith, mul-le-mul a b)
-
-release-bounded : (p q f : ℕ) → 0 < q → f ≤ lastFrame → p ≤ maxPeriod → releaseTick p q f ≤ lastTick
-release-bounded p q f z a b =
-    let more : f * p * 1 ≤ f * p * q = mul-le-mul (le-refl (f * p)) z in
-    le-trans (release-least p q f (f * p) z (omega (arith, more))) (frame-ticks f p a b)
-
-deadline-bounded : (p q f : ℕ) → 0 < q → f ≤ lastFrame → p ≤ maxPeriod → deadlineTick p q f ≤ lastTick
-unfolding deadlineTick
-deadline-bounded p q f z a b = le-trans (div-le-self (f * p) q) (frame-ticks f p a b)
 
 -- the period of an accepted table, and its frames
 pub legal-period : (t : Table) → Legal t → LegalPeriod (t .p) (t .q)
@@ -35,15 +21,16 @@ legal-frames t l k h =
     let n = narrow-known (taskAt t k) (l .narrow k h) in
     (omega (arith, n .release), omega (arith, n .deadline))
 
--- each job of an accepted table is within its limits
-pub job-bounded : (t : Table) → Legal t → (k : ℕ) → k < t .count → Bounded (jobAt t k)
+-- each job of an accepted table at an accepted launch tick is within its limits
+pub job-bounded : (launch : ℕ) (t : Table) → launch ≤ maxLaunch → Legal t → (k : ℕ) → k < t .count → Bounded (jobAt launch t k)
 unfolding jobAt jobOf
-job-bounded t legal k l =
+job-bounded launch t low legal k l =
     let task = narrow-known (taskAt t k) (legal .narrow k l) in
-    let period = period-known (t .p) (t .q) (legal .timed) in
+    let ticks : (f : ℕ) → f ≤ lastFrame → (releaseTick launch (t .p) (t .q) f ≤ lastTick) × (deadlineTick launch (t .p) (t .q) f ≤ lastTick) =
+    λ f h. ticks-bounded launch (t .p) (t .q) f low (legal-period t legal) h in
     record {
-      release = release-bounded (t .p) (t .q) (taskAt t k .release) (period .0) (omega (arith, task .release)) (period .2);
-      deadline = deadline-bounded (t .p) (t .q) (taskAt t k .deadline) (period .0) (omega (arith, task .deadline)) (period .2);
+      release = ticks (taskAt t k .release) (omega (arith, task .release)) .0;
+      deadline = ticks (taskAt t k .deadline) (omega (arith, task .deadline)) .1;
       mandatory = omega (arith, task .mandatory);
       optional = omega (arith, task .optional);
     }

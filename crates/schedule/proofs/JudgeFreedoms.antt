@@ -11,15 +11,16 @@ use Rattle.base.specs.Tests.{and}
 use Rattle.base.specs.Lowest.{someBelow}
 use Rattle.base.proofs.TestLaws.{cases, pick-same, and-again, and-none}
 use Rattle.base.proofs.LowestLaws as lowest-laws
+use Rattle.clock.specs.Clock.{badLaunch}
 use Rattle.table.specs.declared.Table.{Table}
 use Rattle.table.specs.Answers.{isAccepted}
 use Rattle.table.specs.Reading.{tableIn, readAnswer}
 use Rattle.schedule.specs.declared.Job.{Job}
 use Rattle.schedule.specs.declared.Run.{Run}
-use Rattle.schedule.specs.Jobs.{jobAt, workOf, counts}
+use Rattle.schedule.specs.Jobs.{jobOf, jobAt, workOf, counts}
 use Rattle.schedule.specs.Runs.{runOf, badColumns, runsOf}
-use Rattle.schedule.specs.Judging.{noneEmpty, followFrom, inOrder, knownTasks, inWindows, totalOf, exactTotals, verdict}
-use Rattle.schedule.specs.Judging.{keptCount, discardedCount, firstBadMark, judgeSays, judgeTable, judged, SameAtParts, EquallyGood}
+use Rattle.schedule.specs.Judging.{noneEmpty, followFrom, inOrder, knownTasks, inWindows, totalOf, exactTotals, verdictBy, verdict}
+use Rattle.schedule.specs.Judging.{keptCount, discardedCount, firstBadMark, judgeSays, judgeBy, judgeTable, judged, SameAtParts, EquallyGood}
 use Rattle.schedule.proofs.TickLaws.{count-same}
 
 -- 'A mark of 1 or 0 for an optional part of 0 ticks is equally good.'
@@ -35,61 +36,65 @@ count-free : (job : Job) (mark other v : ℕ) → (0 < job .optional → mark �
 count-free job mark other v h = cases (counts job) (λ c. rw (h (ltb-true 0 (job .optional) c))) (λ c. rw c)
 
 -- each task's runs total its work: tests that agree at every task
-exact-free : (t : Table) (marks other : List ℕ) (runs : List Run) → SameAtParts t marks other
-    → exactTotals (jobAt t) marks (t .count) runs ≡ exactTotals (jobAt t) other (t .count) runs
-unfolding exactTotals someBelow
-exact-free t marks other runs h =
-    let test : List ℕ → ℕ → Bool = λ list k. not (eqb (totalOf runs k) (workOf (jobAt t k) (getD list k 0))) in
+exact-free : (launch : ℕ) (t : Table) (marks other : List ℕ) (runs : List Run) → SameAtParts t marks other
+    → exactTotals (jobAt launch t) marks (t .count) runs ≡ exactTotals (jobAt launch t) other (t .count) runs
+unfolding exactTotals someBelow jobAt jobOf
+exact-free launch t marks other runs h =
+    let test : List ℕ → ℕ → Bool = λ list k. not (eqb (totalOf runs k) (workOf (jobAt launch t k) (getD list k 0))) in
     ap (λ (k : ℕ). not (ltb k (t .count)))
     (lowest-laws.same (test marks) (test other) (t .count)
-    (λ k l. ap (λ (work : ℕ). not (eqb (totalOf runs k) work)) (work-free (jobAt t k) (getD marks k 0) (getD other k 0) (h k l))))
+    (λ k l. ap (λ (work : ℕ). not (eqb (totalOf runs k) work)) (work-free (jobAt launch t k) (getD marks k 0) (getD other k 0) (h k l))))
 
 -- marks at optional parts of 0 ticks are free: whatever they are, the lists are equally good
-pub zero-marks-free : (t : Table) (marks other : List ℕ) (runs : List Run) → SameAtParts t marks other → EquallyGood t marks other runs
-unfolding verdict keptCount discardedCount
-zero-marks-free t marks other runs h =
-    let enters : List ℕ → ℕ → ℕ → Bool = λ list v k. and (counts (jobAt t k)) (eqb (getD list k 0) v) in
-    let same : (v k : ℕ) → k < t .count → enters marks v k ≡ enters other v k = λ v k l. count-free (jobAt t k) (getD marks k 0) (getD other k 0) v (h k l) in
+pub zero-marks-free : (launch : ℕ) (t : Table) (marks other : List ℕ) (runs : List Run) → SameAtParts t marks other → EquallyGood launch t marks other runs
+unfolding verdict verdictBy keptCount discardedCount jobAt jobOf
+zero-marks-free launch t marks other runs h =
+    let enters : List ℕ → ℕ → ℕ → Bool = λ list v k. and (counts (jobAt launch t k)) (eqb (getD list k 0) v) in
+    let same : (v k : ℕ) → k < t .count → enters marks v k ≡ enters other v k = λ v k l. count-free (jobAt launch t k) (getD marks k 0) (getD other k 0) v (h k l) in
     record {
-      yes = rw (exact-free t marks other runs h);
+      yes = rw (exact-free launch t marks other runs h);
       kept = count-same (enters marks 1) (enters other 1) (t .count) (same 1);
       discarded = count-same (enters marks 0) (enters other 0) (t .count) (same 0);
     }
 
 -- so the judge, where it refuses nothing, says the same of both
-pub zero-marks-says : (t : Table) (marks other : List ℕ) (runs : List Run) → SameAtParts t marks other
-    → judgeSays (verdict t marks runs) (keptCount t marks) (discardedCount t marks)
-    ≡ judgeSays (verdict t other runs) (keptCount t other) (discardedCount t other)
-zero-marks-says t marks other runs h =
-    let good = zero-marks-free t marks other runs h in
+pub zero-marks-says : (launch : ℕ) (t : Table) (marks other : List ℕ) (runs : List Run) → SameAtParts t marks other
+    → judgeSays (verdict launch t marks runs) (keptCount t marks) (discardedCount t marks)
+    ≡ judgeSays (verdict launch t other runs) (keptCount t other) (discardedCount t other)
+zero-marks-says launch t marks other runs h =
+    let good = zero-marks-free launch t marks other runs h in
     rw (good .yes, good .kept, good .discarded)
 
 -- the reply of a judge that refuses nothing
-table-says : (t : Table) (marks starts ends tasks : List ℕ) → judgeTable t marks starts ends tasks .number ≡ 0
-    → judgeTable t marks starts ends tasks ≡ judgeSays (verdict t marks (runsOf starts ends tasks)) (keptCount t marks) (discardedCount t marks)
-unfolding judgeTable
-table-says t marks starts ends tasks =
-    cases (not (eqb (length marks) (t .count)))
+table-says : (launch : ℕ) (t : Table) (marks starts ends tasks : List ℕ) → judgeTable launch t marks starts ends tasks .number ≡ 0
+    → judgeTable launch t marks starts ends tasks ≡ judgeSays (verdict launch t marks (runsOf starts ends tasks)) (keptCount t marks) (discardedCount t marks)
+unfolding judgeTable judgeBy verdict
+table-says launch t marks starts ends tasks =
+    cases (badLaunch launch)
+    (λ d. rw d (λ z. absurd (omega arith)))
+    (λ d.
+    rw d
+    (cases (not (eqb (length marks) (t .count)))
     (λ e. rw e (λ z. absurd (omega arith)))
     (λ e.
     rw e
     (cases (ltb (firstBadMark marks (t .count)) (t .count))
     (λ f. rw f (λ z. absurd (omega arith)))
-    (λ f. rw f (cases (badColumns starts ends tasks) (λ g. rw g (λ z. absurd (omega arith))) (λ g. rw g (λ z. refl))))))
+    (λ f. rw f (cases (badColumns starts ends tasks) (λ g. rw g (λ z. absurd (omega arith))) (λ g. rw g (λ z. refl))))))))
 
 -- and where it refuses neither list, its two replies are one
-pub zero-marks-judged : (file marks other starts ends tasks : List ℕ) → SameAtParts (tableIn file) marks other
-    → judged file marks starts ends tasks .number ≡ 0 → judged file other starts ends tasks .number ≡ 0
-    → judged file marks starts ends tasks ≡ judged file other starts ends tasks
+pub zero-marks-judged : (launch : ℕ) (file marks other starts ends tasks : List ℕ) → SameAtParts (tableIn file) marks other
+    → judged launch file marks starts ends tasks .number ≡ 0 → judged launch file other starts ends tasks .number ≡ 0
+    → judged launch file marks starts ends tasks ≡ judged launch file other starts ends tasks
 unfolding judged
-zero-marks-judged file marks other starts ends tasks h =
+zero-marks-judged launch file marks other starts ends tasks h =
     let t = tableIn file in
     cases (isAccepted (readAnswer file))
     (λ e.
     rw e
     (λ a b.
-    table-says t marks starts ends tasks a
-    ∙ (zero-marks-says t marks other (runsOf starts ends tasks) h ∙ sym (table-says t other starts ends tasks b))))
+    table-says launch t marks starts ends tasks a
+    ∙ (zero-marks-says launch t marks other (runsOf starts ends tasks) h ∙ sym (table-says launch t other starts ends tasks b))))
     (λ e. rw e (λ a b. refl))
 
 -- 'Two runs of one task may touch.'
@@ -143,14 +148,14 @@ module _ (s m e k : ℕ) (first : s < m) (second : m < e) (after : List Run) whe
   exact-cut job marks n before = simp (total-cut before)
 
 -- a run cut in two that touch is judged as the whole one
-pub touching-runs-free : (t : Table) (marks : List ℕ) (before after : List Run) (s m e k : ℕ) → s < m → m < e
-    → verdict t marks (before ++ runOf s e k ∷ after) ≡ verdict t marks (before ++ runOf s m k ∷ runOf m e k ∷ after)
-unfolding verdict inOrder
-touching-runs-free t marks before after s m e k first second =
+pub touching-runs-free : (launch : ℕ) (t : Table) (marks : List ℕ) (before after : List Run) (s m e k : ℕ) → s < m → m < e
+    → verdict launch t marks (before ++ runOf s e k ∷ after) ≡ verdict launch t marks (before ++ runOf s m k ∷ runOf m e k ∷ after)
+unfolding verdict verdictBy inOrder
+touching-runs-free launch t marks before after s m e k first second =
     rw (
       nonempty-cut s m e k first second after before,
       follow-cut s m e k first second after 0 before,
       known-cut s m e k first second after (t .count) before,
-      windows-cut s m e k first second after (jobAt t) before,
-      exact-cut s m e k first second after (jobAt t) marks (t .count) before,
+      windows-cut s m e k first second after (jobAt launch t) before,
+      exact-cut s m e k first second after (jobAt launch t) marks (t .count) before,
     )

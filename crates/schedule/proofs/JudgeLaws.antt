@@ -14,6 +14,7 @@ use Rattle.base.specs.Lowest.{someBelow}
 use Rattle.base.specs.Places.{placesFrom, places}
 use Rattle.base.proofs.TestLaws.{cases, and-true, and-left, and-right}
 use Rattle.base.proofs.LowestLaws.{no-some, none-some}
+use Rattle.clock.specs.Clock.{badLaunch}
 use Rattle.table.specs.declared.Table.{Table}
 use Rattle.table.specs.declared.Answer.{Answer}
 use Rattle.table.specs.Answers.{numberOf, isAccepted}
@@ -27,7 +28,7 @@ use Rattle.base.specs.Members.{All, Any}
 use Rattle.base.proofs.MemberLaws.{all-map, any-map, all-members, any-member, all-places, any-places}
 use Rattle.schedule.specs.declared.Run.{Run}
 use Rattle.schedule.specs.Runs.{runHolds, ownerOf, Together, badColumns, runsOf}
-use Rattle.schedule.specs.Judging.{noneEmpty, inOrder, knownTasks, inWindows, totalOf, exactTotals, verdict, discardedCount, firstBadMark, judgeTable, judged, Acceptable}
+use Rattle.schedule.specs.Judging.{noneEmpty, inOrder, knownTasks, inWindows, totalOf, exactTotals, verdictBy, verdict, discardedCount, firstBadMark, judgeBy, judgeTable, judged, Acceptable}
 use Rattle.schedule.proofs.RunLaws.{in-holds, run-holds, first-nonempty, rest-nonempty, owner-is-run, owner-has-run, run-ticks}
 
 -- The conditions of the verdict, as facts of each run and of each task.
@@ -89,12 +90,12 @@ totals-each job marks n runs =
     )
 
 -- the verdict is yes exactly where all five hold
-pub verdict-five : (t : Table) (marks : List ℕ) (runs : List Run)
-    → (verdict t marks runs ≡ true)
-    ↔ ((noneEmpty runs ≡ true) × (inOrder runs ≡ true) × (knownTasks (t .count) runs ≡ true) × (inWindows (jobAt t) runs ≡ true)
-    × (exactTotals (jobAt t) marks (t .count) runs ≡ true))
-unfolding verdict
-verdict-five t marks runs = five (noneEmpty runs) (inOrder runs) (knownTasks (t .count) runs) (inWindows (jobAt t) runs) (exactTotals (jobAt t) marks (t .count) runs)
+pub verdict-five : (launch : ℕ) (t : Table) (marks : List ℕ) (runs : List Run)
+    → (verdict launch t marks runs ≡ true)
+    ↔ ((noneEmpty runs ≡ true) × (inOrder runs ≡ true) × (knownTasks (t .count) runs ≡ true) × (inWindows (jobAt launch t) runs ≡ true)
+    × (exactTotals (jobAt launch t) marks (t .count) runs ≡ true))
+unfolding verdict verdictBy
+verdict-five launch t marks runs = five (noneEmpty runs) (inOrder runs) (knownTasks (t .count) runs) (inWindows (jobAt launch t) runs) (exactTotals (jobAt launch t) marks (t .count) runs)
   where
     five : (a b c d e : Bool) → (and a (and b (and c (and d e))) ≡ true) ↔ ((a ≡ true) × (b ≡ true) × (c ≡ true) × (d ≡ true) × (e ≡ true))
     five a b c d e = (
@@ -109,30 +110,30 @@ verdict-five t marks runs = five (noneEmpty runs) (inOrder runs) (knownTasks (t 
 -- The jobs of a table.
 
 -- the job at a position has it
-pub job-position : (t : Table) (k : ℕ) → jobAt t k .position ≡ k
+pub job-position : (launch : ℕ) (t : Table) (k : ℕ) → jobAt launch t k .position ≡ k
 unfolding jobAt jobOf
-job-position t k = refl
+job-position launch t k = refl
 
 -- a job of position i holds a tick exactly where i is in the table and the window at i has the tick
-pub job-holds : (t : Table) (tick i : ℕ)
-    → Any (WindowHolds tick i) (jobsOf t) ↔ ((i < t .count) × (jobAt t i .release ≤ tick) × (tick < jobAt t i .deadline))
+pub job-holds : (launch : ℕ) (t : Table) (tick i : ℕ)
+    → Any (WindowHolds tick i) (jobsOf launch t) ↔ ((i < t .count) × (jobAt launch t i .release ≤ tick) × (tick < jobAt launch t i .deadline))
 unfolding jobsOf
-job-holds t tick i = (
+job-holds launch t tick i = (
   λ h.
-      let m = any-places (WindowHolds tick i) (jobAt t) (t .count) .0 h in
-      let e : m .0 ≡ i = sym (job-position t (m .0)) ∙ m .2 .0 in
+      let m = any-places (WindowHolds tick i) (jobAt launch t) (t .count) .0 h in
+      let e : m .0 ≡ i = sym (job-position launch t (m .0)) ∙ m .2 .0 in
       (rw e at (m .1), rw e at (m .2 .1), rw e at (m .2 .2)),
-  λ h. any-places (WindowHolds tick i) (jobAt t) (t .count) .1 (i, h .0, (job-position t i, h .1, h .2)),
+  λ h. any-places (WindowHolds tick i) (jobAt launch t) (t .count) .1 (i, h .0, (job-position launch t i, h .1, h .2)),
 )
 
 -- in order and in the windows, a task's job gets what the task's runs total
-pub got-total : (t : Table) (runs : List Run) → noneEmpty runs ≡ true → inOrder runs ≡ true → All (InWindow (jobAt t)) runs
-    → (k : ℕ) → got (ownerOf runs) (jobAt t k) ≡ totalOf runs k
+pub got-total : (launch : ℕ) (t : Table) (runs : List Run) → noneEmpty runs ≡ true → inOrder runs ≡ true → All (InWindow (jobAt launch t)) runs
+    → (k : ℕ) → got (ownerOf runs) (jobAt launch t k) ≡ totalOf runs k
 unfolding inOrder
-got-total t runs ne io w k =
-    rw (job-position t k)
-    (run-ticks 0 runs ne io k (jobAt t k .release) (jobAt t k .deadline)
-    (all-map (InWindow (jobAt t)) (λ run. run .task ≡ k → (jobAt t k .release ≤ run .start) × (run .end ≤ jobAt t k .deadline)) runs
+got-total launch t runs ne io w k =
+    rw (job-position launch t k)
+    (run-ticks 0 runs ne io k (jobAt launch t k .release) (jobAt launch t k .deadline)
+    (all-map (InWindow (jobAt launch t)) (λ run. run .task ≡ k → (jobAt launch t k .release ≤ run .start) × (run .end ≤ jobAt launch t k .deadline)) runs
     (λ run h e. rw (← e) h) w))
 
 -- a job that gets the work of its mark gets one of its two amounts
@@ -143,82 +144,82 @@ work-gets owner job mark e =
     (λ h. let q : got owner job ≡ job .mandatory + 0 = rw h at e in inl (omega arith))
 
 -- in the windows, whoever has a tick is in the table and has it in its window
-owned-in : (t : Table) (runs : List Run) → All (λ run. run .task < t .count) runs → All (InWindow (jobAt t)) runs
-    → (tick i : ℕ) → ownerOf runs tick ≡ some i → (i < t .count) × (jobAt t i .release ≤ tick) × (tick < jobAt t i .deadline)
-owned-in t runs known win tick i e =
+owned-in : (launch : ℕ) (t : Table) (runs : List Run) → All (λ run. run .task < t .count) runs → All (InWindow (jobAt launch t)) runs
+    → (tick i : ℕ) → ownerOf runs tick ≡ some i → (i < t .count) × (jobAt launch t i .release ≤ tick) × (tick < jobAt launch t i .deadline)
+owned-in launch t runs known win tick i e =
     let m = any-member (λ run. (runHolds run tick ≡ true) × (run .task ≡ i)) runs (owner-has-run runs tick i e) in
     let h = run-holds (m .0) tick (m .2 .0) in
     let k : i < t .count = rw (m .2 .1) at (all-members (λ run. run .task < t .count) runs .0 known (m .0) (m .1)) in
-    let w : (jobAt t i .release ≤ m .0 .start) × (m .0 .end ≤ jobAt t i .deadline) = rw (m .2 .1) at (all-members (InWindow (jobAt t)) runs .0 win (m .0) (m .1)) in
+    let w : (jobAt launch t i .release ≤ m .0 .start) × (m .0 .end ≤ jobAt launch t i .deadline) = rw (m .2 .1) at (all-members (InWindow (jobAt launch t)) runs .0 win (m .0) (m .1)) in
     (k, omega arith, omega arith)
 
 -- a yes: the keep list and the runs are together a running
-yes-together : (t : Table) (marks : List ℕ) (runs : List Run) → noneEmpty runs ≡ true → inOrder runs ≡ true → All (λ run. run .task < t .count) runs
-    → All (InWindow (jobAt t)) runs → ((k : ℕ) → k < t .count → totalOf runs k ≡ workOf (jobAt t k) (getD marks k 0)) → Together (jobsOf t) marks runs
+yes-together : (launch : ℕ) (t : Table) (marks : List ℕ) (runs : List Run) → noneEmpty runs ≡ true → inOrder runs ≡ true → All (λ run. run .task < t .count) runs
+    → All (InWindow (jobAt launch t)) runs → ((k : ℕ) → k < t .count → totalOf runs k ≡ workOf (jobAt launch t k) (getD marks k 0)) → Together (jobsOf launch t) marks runs
 unfolding jobsOf
-yes-together t marks runs ne io known win total =
+yes-together launch t marks runs ne io known win total =
     let Works : Job → Type 0 = λ job. got (ownerOf runs) job ≡ workOf job (getD marks (job .position) 0) in
-    let works = all-places Works (jobAt t) (t .count) .1 (λ k l. got-total t runs ne io win k ∙ rw (job-position t k) (total k l)) in
+    let works = all-places Works (jobAt launch t) (t .count) .1 (λ k l. got-total launch t runs ne io win k ∙ rw (job-position launch t k) (total k l)) in
     record {
       running = record {
-        inside = λ tick i e. job-holds t tick i .1 (owned-in t runs known win tick i e);
-        gets = all-map Works (Gets (ownerOf runs)) (jobsOf t) (λ job e. work-gets (ownerOf runs) job (getD marks (job .position) 0) e) works;
+        inside = λ tick i e. job-holds launch t tick i .1 (owned-in launch t runs known win tick i e);
+        gets = all-map Works (Gets (ownerOf runs)) (jobsOf launch t) (λ job e. work-gets (ownerOf runs) job (getD marks (job .position) 0) e) works;
       };
       work = works;
     }
 
 -- together a running: each job gets the work of its mark
-pub together-work : (t : Table) (marks : List ℕ) (runs : List Run) → Together (jobsOf t) marks runs
-    → (k : ℕ) → k < t .count → got (ownerOf runs) (jobAt t k) ≡ workOf (jobAt t k) (getD marks k 0)
+pub together-work : (launch : ℕ) (t : Table) (marks : List ℕ) (runs : List Run) → Together (jobsOf launch t) marks runs
+    → (k : ℕ) → k < t .count → got (ownerOf runs) (jobAt launch t k) ≡ workOf (jobAt launch t k) (getD marks k 0)
 unfolding jobsOf
-together-work t marks runs g k l =
-    all-places (λ job. got (ownerOf runs) job ≡ workOf job (getD marks (job .position) 0)) (jobAt t) (t .count) .0 (g .work) k l
-    ∙ ap (λ p. workOf (jobAt t k) (getD marks p 0)) (job-position t k)
+together-work launch t marks runs g k l =
+    all-places (λ job. got (ownerOf runs) job ≡ workOf job (getD marks (job .position) 0)) (jobAt launch t) (t .count) .0 (g .work) k l
+    ∙ ap (λ p. workOf (jobAt launch t k) (getD marks p 0)) (job-position launch t k)
 
 -- together a running: each run's task is in the table and has the run's ticks in its window
-run-tick : (t : Table) (marks : List ℕ) (runs : List Run) → noneEmpty runs ≡ true → inOrder runs ≡ true → Together (jobsOf t) marks runs
+run-tick : (launch : ℕ) (t : Table) (marks : List ℕ) (runs : List Run) → noneEmpty runs ≡ true → inOrder runs ≡ true → Together (jobsOf launch t) marks runs
     → (run : Run) → Any (λ r. r ≡ run) runs → (tick : ℕ) → run .start ≤ tick → tick < run .end
-    → (run .task < t .count) × (jobAt t (run .task) .release ≤ tick) × (tick < jobAt t (run .task) .deadline)
+    → (run .task < t .count) × (jobAt launch t (run .task) .release ≤ tick) × (tick < jobAt launch t (run .task) .deadline)
 unfolding inOrder
-run-tick t marks runs ne io g run m tick a b =
+run-tick launch t marks runs ne io g run m tick a b =
     let held = any-map (λ r. r ≡ run) (λ r. (runHolds r tick ≡ true) × (r .task ≡ run .task)) runs (λ r e. rw e (in-holds run tick a b, refl)) m in
-    job-holds t tick (run .task) .0 (g .running .inside tick (run .task) (owner-is-run 0 runs ne io tick (run .task) held))
+    job-holds launch t tick (run .task) .0 (g .running .inside tick (run .task) (owner-is-run 0 runs ne io tick (run .task) held))
 
 -- so the run lies in its window
-run-inside : (t : Table) (marks : List ℕ) (runs : List Run) → noneEmpty runs ≡ true → inOrder runs ≡ true → Together (jobsOf t) marks runs
-    → (run : Run) → Any (λ r. r ≡ run) runs → (run .task < t .count) × InWindow (jobAt t) run
-run-inside t marks runs ne io g run m =
+run-inside : (launch : ℕ) (t : Table) (marks : List ℕ) (runs : List Run) → noneEmpty runs ≡ true → inOrder runs ≡ true → Together (jobsOf launch t) marks runs
+    → (run : Run) → Any (λ r. r ≡ run) runs → (run .task < t .count) × InWindow (jobAt launch t) run
+run-inside launch t marks runs ne io g run m =
     let l = all-members (λ r. r .start < r .end) runs .0 (nonempty-each runs .0 ne) run m in
-    let first = run-tick t marks runs ne io g run m (run .start) (omega arith) l in
-    let last = run-tick t marks runs ne io g run m (run .end - 1) (omega arith) (omega arith) in
+    let first = run-tick launch t marks runs ne io g run m (run .start) (omega arith) l in
+    let last = run-tick launch t marks runs ne io g run m (run .end - 1) (omega arith) (omega arith) in
     (first .0, (first .1, omega arith))
 
 -- together a running: each task's runs total its work
-together-total : (t : Table) (marks : List ℕ) (runs : List Run) → noneEmpty runs ≡ true → inOrder runs ≡ true → All (InWindow (jobAt t)) runs
-    → Together (jobsOf t) marks runs → (k : ℕ) → k < t .count → totalOf runs k ≡ workOf (jobAt t k) (getD marks k 0)
-together-total t marks runs ne io win g k l = sym (got-total t runs ne io win k) ∙ together-work t marks runs g k l
+together-total : (launch : ℕ) (t : Table) (marks : List ℕ) (runs : List Run) → noneEmpty runs ≡ true → inOrder runs ≡ true → All (InWindow (jobAt launch t)) runs
+    → Together (jobsOf launch t) marks runs → (k : ℕ) → k < t .count → totalOf runs k ≡ workOf (jobAt launch t k) (getD marks k 0)
+together-total launch t marks runs ne io win g k l = sym (got-total launch t runs ne io win k) ∙ together-work launch t marks runs g k l
 
 -- the theorem of the judge: yes exactly where the runs are not empty, are in order, and are with the keep list a running
-pub judge-verdict : (t : Table) (marks : List ℕ) (runs : List Run)
-    → (verdict t marks runs ≡ true) ↔ ((noneEmpty runs ≡ true) × (inOrder runs ≡ true) × Together (jobsOf t) marks runs)
-judge-verdict t marks runs = (
+pub judge-verdict : (launch : ℕ) (t : Table) (marks : List ℕ) (runs : List Run)
+    → (verdict launch t marks runs ≡ true) ↔ ((noneEmpty runs ≡ true) × (inOrder runs ≡ true) × Together (jobsOf launch t) marks runs)
+judge-verdict launch t marks runs = (
   λ e.
-      let v = verdict-five t marks runs .0 e in (
+      let v = verdict-five launch t marks runs .0 e in (
         v .0,
         v .1,
-        yes-together t marks runs (v .0) (v .1) (known-each (t .count) runs .0 (v .2)) (windows-each (jobAt t) runs .0 (v .3))
-            (totals-each (jobAt t) marks (t .count) runs .0 (v .4)),
+        yes-together launch t marks runs (v .0) (v .1) (known-each (t .count) runs .0 (v .2)) (windows-each (jobAt launch t) runs .0 (v .3))
+            (totals-each (jobAt launch t) marks (t .count) runs .0 (v .4)),
       ),
   λ h.
-      let inside = run-inside t marks runs (h .0) (h .1) (h .2) in
+      let inside = run-inside launch t marks runs (h .0) (h .1) (h .2) in
       let known = all-members (λ run. run .task < t .count) runs .1 (λ run m. inside run m .0) in
-      let win = all-members (InWindow (jobAt t)) runs .1 (λ run m. inside run m .1) in
-      verdict-five t marks runs .1 (
+      let win = all-members (InWindow (jobAt launch t)) runs .1 (λ run m. inside run m .1) in
+      verdict-five launch t marks runs .1 (
         h .0,
         h .1,
         known-each (t .count) runs .1 known,
-        windows-each (jobAt t) runs .1 win,
-        totals-each (jobAt t) marks (t .count) runs .1 (together-total t marks runs (h .0) (h .1) win (h .2)),
+        windows-each (jobAt launch t) runs .1 win,
+        totals-each (jobAt launch t) marks (t .count) runs .1 (together-total launch t marks runs (h .0) (h .1) win (h .2)),
       ),
 )
 
@@ -260,40 +261,44 @@ discarded-mark owner job mark l e =
     (λ c. rw c)
 
 -- the discarded count of the judge is what the running discards
-pub together-discards : (t : Table) (marks : List ℕ) (runs : List Run) → ((k : ℕ) → k < t .count → getD marks k 0 ≤ 1)
-    → Together (jobsOf t) marks runs → discards (jobsOf t) (ownerOf runs) ≡ discardedCount t marks
-unfolding jobsOf discardedCount
-together-discards t marks runs low g =
-    discards-places (jobAt t) (ownerOf runs) (λ k. and (counts (jobAt t k)) (eqb (getD marks k 0) 0)) (t .count)
-    (λ k l. discarded-mark (ownerOf runs) (jobAt t k) (getD marks k 0) (low k l) (together-work t marks runs g k l))
+pub together-discards : (launch : ℕ) (t : Table) (marks : List ℕ) (runs : List Run) → ((k : ℕ) → k < t .count → getD marks k 0 ≤ 1)
+    → Together (jobsOf launch t) marks runs → discards (jobsOf launch t) (ownerOf runs) ≡ discardedCount t marks
+unfolding jobsOf jobAt jobOf discardedCount
+together-discards launch t marks runs low g =
+    discards-places (jobAt launch t) (ownerOf runs) (λ k. and (counts (jobAt launch t k)) (eqb (getD marks k 0) 0)) (t .count)
+    (λ k l. discarded-mark (ownerOf runs) (jobAt launch t k) (getD marks k 0) (low k l) (together-work launch t marks runs g k l))
 
 -- Where the judge refuses nothing, it says yes exactly when the runs follow one another in time, none is empty, and list and runs together are
 -- a running.
-table-sound : (t : Table) (marks starts ends tasks : List ℕ) → judgeTable t marks starts ends tasks .number ≡ 0
-    → judgeTable t marks starts ends tasks .yes ≡ verdict t marks (runsOf starts ends tasks)
-unfolding judgeTable
-table-sound t marks starts ends tasks =
-    cases (not (eqb (length marks) (t .count)))
+table-sound : (launch : ℕ) (t : Table) (marks starts ends tasks : List ℕ) → judgeTable launch t marks starts ends tasks .number ≡ 0
+    → judgeTable launch t marks starts ends tasks .yes ≡ verdict launch t marks (runsOf starts ends tasks)
+unfolding judgeTable judgeBy verdict
+table-sound launch t marks starts ends tasks =
+    cases (badLaunch launch)
+    (λ d. rw d (λ z. absurd (omega arith)))
+    (λ d.
+    rw d
+    (cases (not (eqb (length marks) (t .count)))
     (λ e. rw e (λ z. absurd (omega arith)))
     (λ e.
     rw e
     (cases (ltb (firstBadMark marks (t .count)) (t .count))
     (λ f. rw f (λ z. absurd (omega arith)))
-    (λ f. rw f (cases (badColumns starts ends tasks) (λ g. rw g (λ z. absurd (omega arith))) (λ g. rw g (λ z. refl))))))
+    (λ f. rw f (cases (badColumns starts ends tasks) (λ g. rw g (λ z. absurd (omega arith))) (λ g. rw g (λ z. refl))))))))
 
 refused-nonzero : (a : Answer) → isAccepted a ≡ false → numberOf a ≡ 0 → ⊥
 refused-nonzero a e z = eqb-false (numberOf a) 0 (refused-number a e) z
 
-pub judge-sound : (file marks starts ends tasks : List ℕ) → judged file marks starts ends tasks .number ≡ 0
-    → (judged file marks starts ends tasks .yes ≡ true) ↔ Acceptable file marks (runsOf starts ends tasks)
+pub judge-sound : (launch : ℕ) (file marks starts ends tasks : List ℕ) → judged launch file marks starts ends tasks .number ≡ 0
+    → (judged launch file marks starts ends tasks .yes ≡ true) ↔ Acceptable launch file marks (runsOf starts ends tasks)
 unfolding judged
-judge-sound file marks starts ends tasks =
+judge-sound launch file marks starts ends tasks =
     cases (isAccepted (readAnswer file))
     (λ e.
     rw e
     (λ z.
-    let same = table-sound (tableIn file) marks starts ends tasks z in
-    let law = judge-verdict (tableIn file) marks (runsOf starts ends tasks) in (
+    let same = table-sound launch (tableIn file) marks starts ends tasks z in
+    let law = judge-verdict launch (tableIn file) marks (runsOf starts ends tasks) in (
       λ y. let f = law .0 (sym same ∙ y) in record { follow = f .1; nonempty = f .0; together = f .2 },
       λ f. same ∙ law .1 (f .nonempty, f .follow, f .together),
     )))

@@ -7,3 +7,5 @@ pub mod PassLaws
 pub mod VerdictLaws
 pub mod ColumnLaws
 pub mod JudgeFreedoms
+pub mod ShiftLaws
+pub mod LaunchLaws

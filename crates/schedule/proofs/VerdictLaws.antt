@@ -15,17 +15,18 @@ use Rattle.base.specs.Places.{places}
 use Rattle.base.proofs.TestLaws.{cases, and-left, and-right}
 use Rattle.base.proofs.LowestLaws.{some-same}
 use Rattle.base.proofs.PlaceLaws.{places-at}
+use Rattle.clock.specs.Clock.{badLaunch}
 use Rattle.table.specs.declared.Table.{Table}
 use Rattle.table.specs.declared.Answer.the-variants.{Accepted}
 use Rattle.table.specs.Answers.{numberOf, placeOf, isAccepted}
 use Rattle.table.specs.Reading.{tableIn, readAnswer}
 use Rattle.schedule.specs.declared.Job.{Job}
 use Rattle.schedule.specs.declared.Judged.{Judged}
-use Rattle.schedule.specs.Jobs.{noJob, jobAt, workOf, counts}
+use Rattle.schedule.specs.Jobs.{noJob, jobOf, jobAt, workOf, counts}
 use Rattle.schedule.specs.Ticks.{countBelow}
 use Rattle.schedule.specs.declared.Run.{Run}
 use Rattle.schedule.specs.Runs.{badColumns, runsOf}
-use Rattle.schedule.specs.Judging.{noneEmpty, followFrom, inOrder, knownTasks, inWindows, totalOf, exactTotals, verdict, keptCount, discardedCount, firstBadMark, judgeDeclined, judgeTable, judged, Acceptable}
+use Rattle.schedule.specs.Judging.{noneEmpty, followFrom, inOrder, knownTasks, inWindows, totalOf, exactTotals, verdictBy, verdict, keptCount, discardedCount, firstBadMark, judgeDeclined, judgeBy, judgeTable, judged, Acceptable}
 use Rattle.schedule.proofs.TickLaws.{count-same}
 use Rattle.schedule.proofs.JudgeLaws.{judge-sound}
 use Rattle.schedule.specs.Passing.{passes, verdictByPass}
@@ -75,76 +76,81 @@ both f g n marks runs h =
     (λ e. rw e)
 
 -- the five conditions are the verdict on the table's own jobs
-pub pass-verdict : (t : Table) (marks : List ℕ) (runs : List Run) (job : ℕ → Job) → ((k : ℕ) → k < t .count → job k ≡ jobAt t k)
-    → verdictByPass job (t .count) marks runs ≡ verdict t marks runs
-unfolding verdictByPass passes verdict inOrder
-pass-verdict t marks runs job h =
+pub pass-verdict : (launch : ℕ) (t : Table) (marks : List ℕ) (runs : List Run) (job : ℕ → Job) → ((k : ℕ) → k < t .count → job k ≡ jobAt launch t k)
+    → verdictByPass job (t .count) marks runs ≡ verdict launch t marks runs
+unfolding verdictByPass passes verdict verdictBy inOrder
+pass-verdict launch t marks runs job h =
     regroup (noneEmpty runs) (followFrom 0 runs) (knownTasks (t .count) runs) (inWindows job runs) (exactTotals job marks (t .count) runs)
-    ∙ ap (λ (b : Bool). and (noneEmpty runs) (and (followFrom 0 runs) b)) (both job (jobAt t) (t .count) marks runs h)
+    ∙ ap (λ (b : Bool). and (noneEmpty runs) (and (followFrom 0 runs) b)) (both job (jobAt launch t) (t .count) marks runs h)
 
 -- the jobs of a table, as an array holds them
-pub jobs-at : (t : Table) (jobs : List Job) → t .count ≤ maxTasks → jobs ≡ places (λ k. pick (ltb k (t .count)) (jobAt t k) noJob) maxTasks
-    → (k : ℕ) → k < t .count → getD jobs k noJob ≡ jobAt t k
-jobs-at t jobs m e k l =
-    rw (e, places-at (λ k. pick (ltb k (t .count)) (jobAt t k) noJob) maxTasks k noJob (omega arith), lt-ltb k (t .count) l)
+pub jobs-at : (launch : ℕ) (t : Table) (jobs : List Job) → t .count ≤ maxTasks → jobs ≡ places (λ k. pick (ltb k (t .count)) (jobAt launch t k) noJob) maxTasks
+    → (k : ℕ) → k < t .count → getD jobs k noJob ≡ jobAt launch t k
+jobs-at launch t jobs m e k l =
+    rw (e, places-at (λ k. pick (ltb k (t .count)) (jobAt launch t k) noJob) maxTasks k noJob (omega arith), lt-ltb k (t .count) l)
 
 -- the counts over such an array are those of the table
-pub kept-same : (t : Table) (marks : List ℕ) (job : ℕ → Job) → ((k : ℕ) → k < t .count → job k ≡ jobAt t k)
+pub kept-same : (launch : ℕ) (t : Table) (marks : List ℕ) (job : ℕ → Job) → ((k : ℕ) → k < t .count → job k ≡ jobAt launch t k)
     → countBelow (λ k. and (counts (job k)) (eqb (getD marks k 0) 1)) (t .count) ≡ keptCount t marks
-unfolding keptCount
-kept-same t marks job h =
-    count-same (λ k. and (counts (job k)) (eqb (getD marks k 0) 1)) (λ k. and (counts (jobAt t k)) (eqb (getD marks k 0) 1)) (t .count)
+unfolding keptCount jobAt jobOf
+kept-same launch t marks job h =
+    count-same (λ k. and (counts (job k)) (eqb (getD marks k 0) 1)) (λ k. and (counts (jobAt launch t k)) (eqb (getD marks k 0) 1)) (t .count)
     (λ k l. ap (λ (j : Job). and (counts j) (eqb (getD marks k 0) 1)) (h k l))
 
-pub discarded-same : (t : Table) (marks : List ℕ) (job : ℕ → Job) → ((k : ℕ) → k < t .count → job k ≡ jobAt t k)
+pub discarded-same : (launch : ℕ) (t : Table) (marks : List ℕ) (job : ℕ → Job) → ((k : ℕ) → k < t .count → job k ≡ jobAt launch t k)
     → countBelow (λ k. and (counts (job k)) (eqb (getD marks k 0) 0)) (t .count) ≡ discardedCount t marks
-unfolding discardedCount
-discarded-same t marks job h =
-    count-same (λ k. and (counts (job k)) (eqb (getD marks k 0) 0)) (λ k. and (counts (jobAt t k)) (eqb (getD marks k 0) 0)) (t .count)
+unfolding discardedCount jobAt jobOf
+discarded-same launch t marks job h =
+    count-same (λ k. and (counts (job k)) (eqb (getD marks k 0) 0)) (λ k. and (counts (jobAt launch t k)) (eqb (getD marks k 0) 0)) (t .count)
     (λ k l. ap (λ (j : Job). and (counts j) (eqb (getD marks k 0) 0)) (h k l))
 
 -- the reply, test by test, in the order of the refusals
-module _ (t : Table) (marks starts ends tasks : List ℕ) where
-  pub length-refused : (length marks ≡ t .count → ⊥) → judgeDeclined 11 (t .count) ≡ judgeTable t marks starts ends tasks
-  unfolding judgeTable
-  length-refused e = rw (ne-eqb (length marks) (t .count) e)
+module _ (launch : ℕ) (t : Table) (marks starts ends tasks : List ℕ) where
+  pub launch-refused : badLaunch launch ≡ true → judgeDeclined 14 0 ≡ judgeTable launch t marks starts ends tasks
+  unfolding judgeTable judgeBy verdict
+  launch-refused e = rw e
 
-  module _ (long : length marks ≡ t .count) where
-    pub mark-refused : firstBadMark marks (t .count) < t .count → judgeDeclined 11 (firstBadMark marks (t .count)) ≡ judgeTable t marks starts ends tasks
-    unfolding judgeTable
-    mark-refused l = rw (eq-eqb (length marks) (t .count) long, lt-ltb (firstBadMark marks (t .count)) (t .count) l)
+  module _ (accepted : badLaunch launch ≡ false) where
+    pub length-refused : (length marks ≡ t .count → ⊥) → judgeDeclined 11 (t .count) ≡ judgeTable launch t marks starts ends tasks
+    unfolding judgeTable judgeBy verdict
+    length-refused e = rw (accepted, ne-eqb (length marks) (t .count) e)
 
-    module _ (good : t .count ≤ firstBadMark marks (t .count)) where
-      pub columns-refused : badColumns starts ends tasks ≡ true → judgeDeclined 13 0 ≡ judgeTable t marks starts ends tasks
-      unfolding judgeTable
-      columns-refused e = rw (eq-eqb (length marks) (t .count) long, le-ltb (firstBadMark marks (t .count)) (t .count) good, e)
+    module _ (long : length marks ≡ t .count) where
+      pub mark-refused : firstBadMark marks (t .count) < t .count → judgeDeclined 11 (firstBadMark marks (t .count)) ≡ judgeTable launch t marks starts ends tasks
+      unfolding judgeTable judgeBy verdict
+      mark-refused l = rw (accepted, eq-eqb (length marks) (t .count) long, lt-ltb (firstBadMark marks (t .count)) (t .count) l)
 
-      module _ (columns : badColumns starts ends tasks ≡ false) where
-        pub says-yes : verdict t marks (runsOf starts ends tasks) ≡ true
-            → _≡_ {A = Judged} (record { number = 0; place = 0; yes = true; kept = keptCount t marks; discarded = discardedCount t marks }) (judgeTable t marks starts ends tasks)
-        unfolding judgeTable
-        says-yes e = rw (eq-eqb (length marks) (t .count) long, le-ltb (firstBadMark marks (t .count)) (t .count) good, columns, e)
+      module _ (good : t .count ≤ firstBadMark marks (t .count)) where
+        pub columns-refused : badColumns starts ends tasks ≡ true → judgeDeclined 13 0 ≡ judgeTable launch t marks starts ends tasks
+        unfolding judgeTable judgeBy verdict
+        columns-refused e = rw (accepted, eq-eqb (length marks) (t .count) long, le-ltb (firstBadMark marks (t .count)) (t .count) good, e)
 
-        pub says-no : verdict t marks (runsOf starts ends tasks) ≡ false
-            → _≡_ {A = Judged} (record { number = 0; place = 0; yes = false; kept = 0; discarded = 0 }) (judgeTable t marks starts ends tasks)
-        unfolding judgeTable
-        says-no e = rw (eq-eqb (length marks) (t .count) long, le-ltb (firstBadMark marks (t .count)) (t .count) good, columns, e)
+        module _ (columns : badColumns starts ends tasks ≡ false) where
+          pub says-yes : verdict launch t marks (runsOf starts ends tasks) ≡ true
+              → _≡_ {A = Judged} (record { number = 0; place = 0; yes = true; kept = keptCount t marks; discarded = discardedCount t marks }) (judgeTable launch t marks starts ends tasks)
+          unfolding judgeTable judgeBy verdict
+          says-yes e = rw (accepted, eq-eqb (length marks) (t .count) long, le-ltb (firstBadMark marks (t .count)) (t .count) good, columns, e)
+
+          pub says-no : verdict launch t marks (runsOf starts ends tasks) ≡ false
+              → _≡_ {A = Judged} (record { number = 0; place = 0; yes = false; kept = 0; discarded = 0 }) (judgeTable launch t marks starts ends tasks)
+          unfolding judgeTable judgeBy verdict
+          says-no e = rw (accepted, eq-eqb (length marks) (t .count) long, le-ltb (firstBadMark marks (t .count)) (t .count) good, columns, e)
 
 -- a refusal of reading is the judge's
-pub read-refused : (file marks starts ends tasks : List ℕ) → isAccepted (readAnswer file) ≡ false
-    → judgeDeclined (numberOf (readAnswer file)) (placeOf (readAnswer file)) ≡ judged file marks starts ends tasks
+pub read-refused : (launch : ℕ) (file marks starts ends tasks : List ℕ) → isAccepted (readAnswer file) ≡ false
+    → judgeDeclined (numberOf (readAnswer file)) (placeOf (readAnswer file)) ≡ judged launch file marks starts ends tasks
 unfolding judged
-read-refused file marks starts ends tasks e = rw e
+read-refused launch file marks starts ends tasks e = rw e
 
 -- on an accepted file the judge replies as on its table
-pub read-accepted : (file marks starts ends tasks : List ℕ) → readAnswer file ≡ Accepted
-    → judgeTable (tableIn file) marks starts ends tasks ≡ judged file marks starts ends tasks
+pub read-accepted : (launch : ℕ) (file marks starts ends tasks : List ℕ) → readAnswer file ≡ Accepted
+    → judgeTable launch (tableIn file) marks starts ends tasks ≡ judged launch file marks starts ends tasks
 unfolding judged
-read-accepted file marks starts ends tasks e = rw e
+read-accepted launch file marks starts ends tasks e = rw e
 
 -- a reply that is the judge's is sound
-pub sound-of : (file marks starts ends tasks : List ℕ) (r : Judged) → r ≡ judged file marks starts ends tasks
-    → r .number ≡ 0 → (r .yes ≡ true) ↔ Acceptable file marks (runsOf starts ends tasks)
-sound-of file marks starts ends tasks r e z =
-    let law = judge-sound file marks starts ends tasks (ap (λ (j : Judged). j .number) (sym e) ∙ z) in
+pub sound-of : (launch : ℕ) (file marks starts ends tasks : List ℕ) (r : Judged) → r ≡ judged launch file marks starts ends tasks
+    → r .number ≡ 0 → (r .yes ≡ true) ↔ Acceptable launch file marks (runsOf starts ends tasks)
+sound-of launch file marks starts ends tasks r e z =
+    let law = judge-sound launch file marks starts ends tasks (ap (λ (j : Judged). j .number) (sym e) ∙ z) in
     (λ y. law .0 (ap (λ (j : Judged). j .yes) (sym e) ∙ y), λ f. ap (λ (j : Judged). j .yes) e ∙ law .1 f)

@@ -1,4 +1,4 @@
--- Jobs: the tasks of an accepted table in ticks. This is the only definition above the frame clock that knows frames or periods.
+-- Jobs: the tasks of an accepted table in ticks of the frame clock at a launch tick. Nothing above uses the clock, but Earlier, which has document 01's.
 use Prim.Native.Nat.{ℕ, _+_, _-_, _≤_}
 use mathlib.Core.List.{List}
 use lib.Dec.{ltb, eqb}
@@ -16,24 +16,24 @@ use Rattle.schedule.specs.declared.Job.{Job}
 abbrev pub noJob : Job
 noJob = record { position = 0; release = 0; deadline = 0; mandatory = 0; optional = 0 }
 
--- a task at a position, with a window in ticks: from its release, included, to its deadline, excluded
-unfoldable pub jobOf : ℕ → ℕ → ℕ → Task → Job
-jobOf p q position task =
+-- a task at a position under the period p/q, with its window in ticks at a launch tick: from its release, included, to its deadline, excluded
+unfoldable pub jobOf : ℕ → ℕ → ℕ → ℕ → Task → Job
+jobOf launch p q position task =
     record {
       position = position;
-      release = releaseTick p q (task .release);
-      deadline = deadlineTick p q (task .deadline);
+      release = releaseTick launch p q (task .release);
+      deadline = deadlineTick launch p q (task .deadline);
       mandatory = task .mandatory;
       optional = task .optional;
     }
 
--- the job at a position of a table
-unfoldable pub jobAt : Table → ℕ → Job
-jobAt t k = jobOf (t .p) (t .q) k (taskAt t k)
+-- the job at a position of a table at a launch tick
+unfoldable pub jobAt : ℕ → Table → ℕ → Job
+jobAt launch t k = jobOf launch (t .p) (t .q) k (taskAt t k)
 
--- the jobs of a table, by position
-unfoldable pub jobsOf : Table → List Job
-jobsOf t = places (jobAt t) (t .count)
+-- the jobs of a table at a launch tick, by position
+unfoldable pub jobsOf : ℕ → Table → List Job
+jobsOf launch t = places (jobAt launch t) (t .count)
 
 -- the ticks of a window, from its release, included, to its deadline, excluded; none where the deadline is not after the release
 abbrev pub windowTicks : Job → ℕ

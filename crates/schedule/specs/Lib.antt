@@ -5,3 +5,5 @@ pub mod Runs
 pub mod Judging
 pub mod BusyCount
 pub mod Passing
+pub mod Shifting
+pub mod Earlier

@@ -3,7 +3,7 @@
 ghost use mathlib.Core.Path.{_≡_};
 ghost use Prim.Native.Nat.{ℕ, _≤_, _<_};
 ghost use lib.Dec.{ltb};
-ghost use Rattle.base.specs.Limits.{maxTasks, lastFrame};
+ghost use Rattle.base.specs.Limits.{maxTasks, lastFrame, maxLaunch};
 ghost use Rattle.base.specs.Tests.{pick};
 ghost use Rattle.base.specs.Places.{places};
 ghost use Rattle.table.specs.Tables.{taskAt};
@@ -71,16 +71,17 @@ pub fn bad_columns(starts: &[u32], ends: &[u32], tasks: &[u32]) -> bool
     starts.len() != tasks.len()
 }
 
-// The task at a position, in ticks of the exact frame clock.
-pub fn job_of(task: Task, p: u32, q: u32, position: u32) -> Job
+// The task at a position, in ticks of the exact frame clock from a launch tick on.
+pub fn job_of(task: Task, launch: u32, p: u32, q: u32, position: u32) -> Job
+    requires { ⌜ launch ≤ maxLaunch ⌝ }
     requires { ⌜ LegalPeriod p q ⌝ }
     requires { ⌜ (task .release ≤ lastFrame) × (task .deadline ≤ lastFrame) ⌝ }
-    ensures { λ r. ⌜ r ≡ jobOf p q position task ⌝ }
+    ensures { λ r. ⌜ r ≡ jobOf launch p q position task ⌝ }
 {
     Job {
         position,
-        release: clock::release_tick(task.release, p, q),
-        deadline: clock::deadline_tick(task.deadline, p, q),
+        release: clock::release_tick(launch, task.release, p, q),
+        deadline: clock::deadline_tick(launch, task.deadline, p, q),
         mandatory: task.mandatory,
         optional: task.optional,
     }
@@ -96,19 +97,20 @@ pub fn window_ticks(job: Job) -> u32
     job.deadline - job.release
 }
 
-// The jobs of an accepted table, by position; the places beyond its count are 0.
-pub fn jobs_of(table: Table) -> [Job; MAX_TASKS]
+// The jobs of an accepted table at a launch tick, by position; the places beyond its count are 0.
+pub fn jobs_of(table: Table, launch: u32) -> [Job; MAX_TASKS]
     requires { ⌜ table .count ≤ maxTasks ⌝ }
+    requires { ⌜ launch ≤ maxLaunch ⌝ }
     requires { ⌜ LegalPeriod (table .p) (table .q) ⌝ }
     requires { ⌜ ((k : ℕ) → k < table .count → (taskAt table k .release ≤ lastFrame) × (taskAt table k .deadline ≤ lastFrame)) ⌝ }
-    ensures { λ r. ⌜ r ≡ places (λ k. pick (ltb k (table .count)) (jobAt table k) noJob) maxTasks ⌝ }
+    ensures { λ r. ⌜ r ≡ places (λ k. pick (ltb k (table .count)) (jobAt launch table k) noJob) maxTasks ⌝ }
 {
     let mut jobs = [NO_JOB; MAX_TASKS];
     let count = table.count as usize;
     let mut i: usize = 0;
     while i < count {
         let task = table.tasks[i];
-        jobs[i] = job_of(task, table.p, table.q, i as u32);
+        jobs[i] = job_of(task, launch, table.p, table.q, i as u32);
         i += 1;
     }
     jobs

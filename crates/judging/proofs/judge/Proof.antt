@@ -39,17 +39,17 @@ returns : tie.Need-returns
 returns c =
     let answer = read-answer (c .before .before .before .before .before .before .before .before .before .before .args .file .now) _ (c .before .before .before .before .read .ensures) in
     let bad = ap isAccepted (sym answer) ∙ told-refused (c .before .before .before .before .read .result .answer) (c .before .before .before .match .keys2) in
-    let e = c .declined .ensures ∙ (ap₂ judgeDeclined (c .before .before .number .ensures ∙ ap numberOf answer) (c .before .place .ensures ∙ ap placeOf answer) ∙ read-refused (c .before .before .before .before .before .before .before .before .before .before .args .file .now) (c .before .before .before .before .before .before .before .before .before .before .args .marks .now) (c .before .before .before .before .before .before .before .before .before .before .args .starts .now) (c .before .before .before .before .before .before .before .before .before .before .args .ends .now) (c .before .before .before .before .before .before .before .before .before .before .args .tasks .now) bad) in
-    (e, sound-of (c .before .before .before .before .before .before .before .before .before .before .args .file .now) (c .before .before .before .before .before .before .before .before .before .before .args .marks .now) (c .before .before .before .before .before .before .before .before .before .before .args .starts .now) (c .before .before .before .before .before .before .before .before .before .before .args .ends .now) (c .before .before .before .before .before .before .before .before .before .before .args .tasks .now) _ e)
+    let e = c .declined .ensures ∙ (ap₂ judgeDeclined (c .before .before .number .ensures ∙ ap numberOf answer) (c .before .place .ensures ∙ ap placeOf answer) ∙ read-refused (c .before .before .before .before .before .before .before .before .before .before .args .launch) (c .before .before .before .before .before .before .before .before .before .before .args .file .now) (c .before .before .before .before .before .before .before .before .before .before .args .marks .now) (c .before .before .before .before .before .before .before .before .before .before .args .starts .now) (c .before .before .before .before .before .before .before .before .before .before .args .ends .now) (c .before .before .before .before .before .before .before .before .before .before .args .tasks .now) bad) in
+    (e, sound-of (c .before .before .before .before .before .before .before .before .before .before .args .launch) (c .before .before .before .before .before .before .before .before .before .before .args .file .now) (c .before .before .before .before .before .before .before .before .before .before .args .marks .now) (c .before .before .before .before .before .before .before .before .before .before .args .starts .now) (c .before .before .before .before .before .before .before .before .before .before .args .ends .now) (c .before .before .before .before .before .before .before .before .before .before .args .tasks .now) _ e)
 
 judge-table-requires : tie.Need-judge-table-requires
 judge-table-requires c κs = subst Legal (sym (table-is (c .before))) (read-legal (c .before .before .before .before .before .before .before .before .before .args .file .now) (accepted (c .before)))
 
 returns-2 : tie.Need-returns-2
 returns-2 c =
-    let same = ap (λ (t : Table). judgeTable t (c .before .before .before .before .before .before .before .before .before .before .args .marks .now) (c .before .before .before .before .before .before .before .before .before .before .args .starts .now) (c .before .before .before .before .before .before .before .before .before .before .args .ends .now) (c .before .before .before .before .before .before .before .before .before .before .args .tasks .now)) (table-is (c .before .before)) in
-    let e = c .judge-table .ensures ∙ (same ∙ read-accepted (c .before .before .before .before .before .before .before .before .before .before .args .file .now) (c .before .before .before .before .before .before .before .before .before .before .args .marks .now) (c .before .before .before .before .before .before .before .before .before .before .args .starts .now) (c .before .before .before .before .before .before .before .before .before .before .args .ends .now) (c .before .before .before .before .before .before .before .before .before .before .args .tasks .now) (accepted (c .before .before))) in
-    (e, sound-of (c .before .before .before .before .before .before .before .before .before .before .args .file .now) (c .before .before .before .before .before .before .before .before .before .before .args .marks .now) (c .before .before .before .before .before .before .before .before .before .before .args .starts .now) (c .before .before .before .before .before .before .before .before .before .before .args .ends .now) (c .before .before .before .before .before .before .before .before .before .before .args .tasks .now) _ e)
+    let same = ap (λ (t : Table). judgeTable (c .before .before .before .before .before .before .before .before .before .before .args .launch) t (c .before .before .before .before .before .before .before .before .before .before .args .marks .now) (c .before .before .before .before .before .before .before .before .before .before .args .starts .now) (c .before .before .before .before .before .before .before .before .before .before .args .ends .now) (c .before .before .before .before .before .before .before .before .before .before .args .tasks .now)) (table-is (c .before .before)) in
+    let e = c .judge-table .ensures ∙ (same ∙ read-accepted (c .before .before .before .before .before .before .before .before .before .before .args .launch) (c .before .before .before .before .before .before .before .before .before .before .args .file .now) (c .before .before .before .before .before .before .before .before .before .before .args .marks .now) (c .before .before .before .before .before .before .before .before .before .before .args .starts .now) (c .before .before .before .before .before .before .before .before .before .before .args .ends .now) (c .before .before .before .before .before .before .before .before .before .before .args .tasks .now) (accepted (c .before .before))) in
+    (e, sound-of (c .before .before .before .before .before .before .before .before .before .before .args .launch) (c .before .before .before .before .before .before .before .before .before .before .args .file .now) (c .before .before .before .before .before .before .before .before .before .before .args .marks .now) (c .before .before .before .before .before .before .before .before .before .before .args .starts .now) (c .before .before .before .before .before .before .before .before .before .before .args .ends .now) (c .before .before .before .before .before .before .before .before .before .before .args .tasks .now) _ e)
 
 pub judge-spec : {M : Type 1} → statement M
 judge-spec =

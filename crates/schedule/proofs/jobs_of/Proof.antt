@@ -9,10 +9,10 @@ use Rattle.schedule.proofs.jobs_of.Statement.{statement}
 use Rattle.schedule.proofs.jobs_of.Tie as tie
 
 abbrev Inv-loop : tie.InvT-loop
-Inv-loop table jobs₀ count i₀ jobs i = (i ≤ table .count) × Filled noJob (jobAt table) maxTasks (table .count) i jobs
+Inv-loop launch table jobs₀ count i₀ jobs i = (i ≤ table .count) × Filled noJob (jobAt launch table) maxTasks (table .count) i jobs
 
 abbrev μ-loop : tie.MeasureT-loop
-μ-loop table jobs₀ count i₀ jobs i = count - i
+μ-loop launch table jobs₀ count i₀ jobs i = count - i
 
 cast-count : tie.Need-cast-count Inv-loop μ-loop
 cast-count c = omega arith
@@ -33,7 +33,7 @@ job-of-requires : tie.Need-job-of-requires Inv-loop μ-loop
 unfolding taskAt
 job-of-requires c κs =
     let pre = c .before .before .before .pre in
-    (pre .1 .0, pre .1 .1 (c .before .before .loop .i) (omega arith))
+    (pre .1 .0, (pre .1 .1 .0, pre .1 .1 .1 (c .before .before .loop .i) (omega arith)))
 
 mul-jobs : tie.Need-mul-jobs Inv-loop μ-loop
 mul-jobs c = omega arith

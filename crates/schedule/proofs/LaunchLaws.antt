@@ -1,0 +1,78 @@
+-- What a launch tick does to the jobs of a table and to the judge: the windows lie later by it, and runs later by it get the verdict that the runs get with
+-- launch 0. With launch 0 every earlier answer holds.
+use Prim.Native.Nat.{ℕ}
+use mathlib.Core.Path.{_≡_, fun-ext}
+use mathlib.Core.List.{List}
+use mathlib.Core.Bool.{false}
+use lib.ListN.{length-map}
+use Rattle.clock.specs.Clock.{badLaunch}
+use Rattle.clock.proofs.ClockLaws.{release-launch-0, deadline-launch-0, release-later, deadline-later}
+use Rattle.table.specs.declared.Table.{Table}
+use Rattle.table.specs.Tables.{taskAt}
+use Rattle.table.specs.Reading.{tableIn}
+use Rattle.schedule.specs.declared.Run.{Run}
+use Rattle.schedule.specs.Jobs.{jobOf, jobAt}
+use Rattle.schedule.specs.Runs.{badColumns, startsOf, endsOf, tasksOf}
+use Rattle.schedule.specs.Judging.{verdictBy, verdict, judgeBy, judgeTable, judged}
+use Rattle.schedule.specs.Shifting.{laterJob, laterRun, laterRuns}
+use Rattle.schedule.specs.Earlier.{earlierJobAt, earlierJudged}
+use Rattle.schedule.proofs.ColumnLaws.{columns-runs}
+use Rattle.schedule.proofs.ShiftLaws.{nonempty-shift, order-shift, known-shift, windows-shift, totals-shift}
+
+-- The job at a position lies later by the launch tick than with launch 0,
+pub job-launch : (launch : ℕ) (t : Table) (k : ℕ) → jobAt launch t k ≡ laterJob launch (jobAt 0 t k)
+unfolding jobAt jobOf
+job-launch launch t k =
+    rw (release-later launch (t .p) (t .q) (taskAt t k .release), deadline-later launch (t .p) (t .q) (taskAt t k .deadline))
+
+-- which is where it was before there was a launch tick.
+pub job-launch-0 : (t : Table) (k : ℕ) → jobAt 0 t k ≡ earlierJobAt t k
+unfolding jobAt jobOf earlierJobAt
+job-launch-0 t k = rw (release-launch-0 (t .p) (t .q) (taskAt t k .release), deadline-launch-0 (t .p) (t .q) (taskAt t k .deadline))
+
+-- Runs later by the launch tick get the verdict that the runs get with launch 0.
+pub verdict-launch : (launch : ℕ) (t : Table) (marks : List ℕ) (runs : List Run) → verdict launch t marks (laterRuns launch runs) ≡ verdict 0 t marks runs
+unfolding verdict verdictBy
+verdict-launch launch t marks runs =
+    rw (
+      fun-ext (job-launch launch t),
+      nonempty-shift launch runs,
+      order-shift launch runs,
+      known-shift launch (t .count) runs,
+      windows-shift launch (jobAt 0 t) runs,
+      totals-shift launch (jobAt 0 t) marks (t .count) runs,
+    )
+
+-- runs later by some ticks have columns as long as the runs have
+columns-later : (c : ℕ) (runs : List Run)
+    → badColumns (startsOf (laterRuns c runs)) (endsOf (laterRuns c runs)) (tasksOf (laterRuns c runs)) ≡ badColumns (startsOf runs) (endsOf runs) (tasksOf runs)
+unfolding badColumns
+columns-later c runs =
+    rw (
+      length-map (laterRuns c runs) (λ run. run .start),
+      length-map (laterRuns c runs) (λ run. run .end),
+      length-map (laterRuns c runs) (λ run. run .task),
+      length-map runs (laterRun c),
+      length-map runs (λ run. run .start),
+      length-map runs (λ run. run .end),
+      length-map runs (λ run. run .task),
+    )
+
+-- So the judge's reply to them at an accepted launch tick is its reply to the runs with launch 0, refusals too.
+pub judge-launch : (launch : ℕ) (file marks : List ℕ) (runs : List Run) → badLaunch launch ≡ false
+    → judged launch file marks (startsOf (laterRuns launch runs)) (endsOf (laterRuns launch runs)) (tasksOf (laterRuns launch runs))
+    ≡ judged 0 file marks (startsOf runs) (endsOf runs) (tasksOf runs)
+unfolding judged judgeTable judgeBy verdict
+judge-launch launch file marks runs low =
+    rw (
+      low,
+      columns-later launch runs,
+      columns-runs (laterRuns launch runs),
+      columns-runs runs,
+      verdict-launch launch (tableIn file) marks runs,
+    )
+
+-- With launch 0 every earlier answer of the judge holds.
+pub judge-launch-0 : (file marks starts ends tasks : List ℕ) → judged 0 file marks starts ends tasks ≡ earlierJudged file marks starts ends tasks
+unfolding judged judgeTable earlierJudged
+judge-launch-0 file marks starts ends tasks = rw (fun-ext (job-launch-0 (tableIn file)))
