@@ -9,3 +9,4 @@ pub mod RewriteLaws
 pub mod BuildLaws
 pub mod BackLaws
 pub mod SampleLaws
+pub mod ShiftLaws

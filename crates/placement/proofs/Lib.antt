@@ -14,3 +14,4 @@ pub mod RunColumns
 pub mod FillLaws
 pub mod FilledPlaces
 pub mod LatestTicks
+pub mod ShiftLaws

@@ -9,3 +9,4 @@ pub mod OrderBest
 pub mod KeptRowLaws
 pub mod WalkLaws
 pub mod OrderSampleLaws
+pub mod ShiftLaws

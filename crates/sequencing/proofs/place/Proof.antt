@@ -5,6 +5,7 @@ use native.Mathlib.Omega.{arith}
 use borrow.Author.Needs.{needs}
 use lib.ListN.{getD, length}
 use mathlib.Core.Bool.{false}
+use Rattle.base.specs.Limits.{lastTick}
 use Rattle.schedule.specs.Jobs.{noJob, Bounded}
 use Rattle.sequence.proofs.WalkLaws.{Laid, laid-start, laid-passed, laid-run, laid-room, laid-end}
 use Rattle.sequencing.proofs.place.Statement.{statement}
@@ -32,7 +33,7 @@ laid c =
     rw next at (c .before .loop .inv)
 
 -- where there is work, it ends by the last tick
-room : (c : tie.After-starts-at Inv-loop μ-loop) → c .starts-at .result + c .before .before .work-with .result ≤ 536_735_745
+room : (c : tie.After-starts-at Inv-loop μ-loop) → c .starts-at .result + c .before .before .work-with .result ≤ lastTick
 room c =
     let work = c .before .before in
     let inside = work .before .before in
