@@ -67,34 +67,36 @@ pub extern "C" fn planner_shift(file: &[u8], frames: i32, out: &mut [u8]) -> Wri
     moving::shift(file, frames, out)
 }
 
-// Planning.
+// Planning at a launch tick.
 #[no_mangle]
 pub extern "C" fn planner_plan(
     file: &[u8],
+    launch: u32,
     marks: &mut [u8],
     starts: &mut [u32],
     ends: &mut [u32],
     tasks: &mut [u32],
 ) -> Planned
-    ensures reply { λ r. ⌜ r ≡ planReply (now (file .entry)) (lent (now (marks .entry)) (now (starts .entry)) (now (ends .entry)) (now (tasks .entry))) ⌝ }
+    ensures reply { λ r. ⌜ r ≡ planReply launch (now (file .entry)) (lent (now (marks .entry)) (now (starts .entry)) (now (ends .entry)) (now (tasks .entry))) ⌝ }
     ensures lists_after { λ r. ⌜ lent (now (marks .exit)) (now (starts .exit)) (now (ends .exit)) (now (tasks .exit))
-        ≡ listsAfter (tableIn (now (file .entry))) r (lent (now (marks .entry)) (now (starts .entry)) (now (ends .entry)) (now (tasks .entry))) ⌝ }
+        ≡ listsAfter launch (tableIn (now (file .entry))) r (lent (now (marks .entry)) (now (starts .entry)) (now (ends .entry)) (now (tasks .entry))) ⌝ }
 {
-    planner::plan(file, marks, starts, ends, tasks)
+    planner::plan(file, launch, marks, starts, ends, tasks)
 }
 
-// Judging.
+// Judging at a launch tick.
 #[no_mangle]
 pub extern "C" fn planner_judge(
     file: &[u8],
+    launch: u32,
     marks: &[u8],
     starts: &[u32],
     ends: &[u32],
     tasks: &[u32],
 ) -> Judged
-    ensures { λ r. ⌜ r ≡ judged (now (file .entry)) (now (marks .entry)) (now (starts .entry)) (now (ends .entry)) (now (tasks .entry)) ⌝ }
+    ensures { λ r. ⌜ r ≡ judged launch (now (file .entry)) (now (marks .entry)) (now (starts .entry)) (now (ends .entry)) (now (tasks .entry)) ⌝ }
 {
-    judging::judge(file, marks, starts, ends, tasks)
+    judging::judge(file, launch, marks, starts, ends, tasks)
 }
 
 // The busy count of the interval from a to b.

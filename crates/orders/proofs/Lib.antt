@@ -5,3 +5,4 @@ pub mod TableRunnings
 pub mod NestLaws
 pub mod SimilarLaws
 pub mod KeyLaws
+pub mod LaunchLaws

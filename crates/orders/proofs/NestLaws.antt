@@ -76,27 +76,27 @@ nest-falls t l e = falls-by (nestBefore t) (inside t) (t .count) (nest-strict t)
 -- Chains of jobs.
 
 -- a window that lies inside in frames lies inside in ticks
-inside-ticks : (t : Table) (a b : ℕ) → inside t a b ≡ true → Between (jobAt t b .release) (jobAt t b .deadline) (jobAt t a)
+inside-ticks : (launch : ℕ) (t : Table) (a b : ℕ) → inside t a b ≡ true → Between (jobAt launch t b .release) (jobAt launch t b .deadline) (jobAt launch t a)
 unfolding jobAt jobOf
-inside-ticks t a b e =
+inside-ticks launch t a b e =
     let w = contains-known (taskAt t b) (taskAt t a) e in (
-      release-monotone (t .p) (t .q) (taskAt t b .release) (taskAt t a .release) (w .0),
-      deadline-monotone (t .p) (t .q) (taskAt t a .deadline) (taskAt t b .deadline) (w .1),
+      release-monotone launch (t .p) (t .q) (taskAt t b .release) (taskAt t a .release) (w .0),
+      deadline-monotone launch (t .p) (t .q) (taskAt t a .deadline) (taskAt t b .deadline) (w .1),
     )
 
 -- jobs of positions whose windows lie each inside those before it
-jobs-nested : (t : Table) (js : List ℕ) → Sorted (inside t) js → Nested (map (jobAt t) js)
-jobs-nested t [] o = tt
-jobs-nested t (k ∷ js) o = (
-  jobs-all t (λ j. inside t j k ≡ true) (Between (jobAt t k .release) (jobAt t k .deadline)) js (λ j e. inside-ticks t j k e) (o .0),
-  jobs-nested t js (o .1),
+jobs-nested : (launch : ℕ) (t : Table) (js : List ℕ) → Sorted (inside t) js → Nested (map (jobAt launch t) js)
+jobs-nested launch t [] o = tt
+jobs-nested launch t (k ∷ js) o = (
+  jobs-all launch t (λ j. inside t j k ≡ true) (Between (jobAt launch t k .release) (jobAt launch t k .deadline)) js (λ j e. inside-ticks launch t j k e) (o .0),
+  jobs-nested launch t js (o .1),
 )
 
 -- The jobs of an accepted table that is nested, last first, are a chain.
-pub nest-chain : (t : Table) → Legal t → isNested t ≡ true → Chain (jobsLastFirst t)
+pub nest-chain : (launch : ℕ) (t : Table) → Legal t → isNested t ≡ true → Chain (jobsLastFirst launch t)
 unfolding jobsLastFirst
-nest-chain t l e =
+nest-chain launch t l e =
     record {
-      nested = jobs-nested t (orderLastFirst t) (subst⁻¹ (Sorted (inside t)) (order-nested t e) (nest-falls t l e));
-      distinct = jobs-distinct t;
+      nested = jobs-nested launch t (orderLastFirst t) (subst⁻¹ (Sorted (inside t)) (order-nested t e) (nest-falls t l e));
+      distinct = jobs-distinct launch t;
     }

@@ -60,30 +60,30 @@ similar-notAfter t s a b la lb before =
     (le-leb (taskAt t a .deadline) (taskAt t b .deadline) (f .1))
 
 -- so it is in ticks
-notAfter-ticks : (t : Table) (a b : ℕ) → notAfter t a b ≡ true → NotAfter (jobAt t b) (jobAt t a)
+notAfter-ticks : (launch : ℕ) (t : Table) (a b : ℕ) → notAfter t a b ≡ true → NotAfter (jobAt launch t b) (jobAt launch t a)
 unfolding jobAt jobOf
-notAfter-ticks t a b e =
+notAfter-ticks launch t a b e =
     let r : Bool = leb (taskAt t a .release) (taskAt t b .release) in
     let d : Bool = leb (taskAt t a .deadline) (taskAt t b .deadline) in (
-      release-monotone (t .p) (t .q) (taskAt t a .release) (taskAt t b .release) (leb-true (taskAt t a .release) (taskAt t b .release) (and-left r d e)),
-      deadline-monotone (t .p) (t .q) (taskAt t a .deadline) (taskAt t b .deadline) (leb-true (taskAt t a .deadline) (taskAt t b .deadline) (and-right r d e)),
+      release-monotone launch (t .p) (t .q) (taskAt t a .release) (taskAt t b .release) (leb-true (taskAt t a .release) (taskAt t b .release) (and-left r d e)),
+      deadline-monotone launch (t .p) (t .q) (taskAt t a .deadline) (taskAt t b .deadline) (leb-true (taskAt t a .deadline) (taskAt t b .deadline) (and-right r d e)),
     )
 
 -- jobs of positions that are each no later than those before them
-jobs-ordered : (t : Table) (js : List ℕ) → Sorted (notAfter t) js → Ordered (map (jobAt t) js)
-jobs-ordered t [] o = tt
-jobs-ordered t (k ∷ js) o = (
-  jobs-all t (λ j. notAfter t j k ≡ true) (NotAfter (jobAt t k)) js (λ j e. notAfter-ticks t j k e) (o .0),
-  jobs-ordered t js (o .1),
+jobs-ordered : (launch : ℕ) (t : Table) (js : List ℕ) → Sorted (notAfter t) js → Ordered (map (jobAt launch t) js)
+jobs-ordered launch t [] o = tt
+jobs-ordered launch t (k ∷ js) o = (
+  jobs-all launch t (λ j. notAfter t j k ≡ true) (NotAfter (jobAt launch t k)) js (λ j e. notAfter-ticks launch t j k e) (o .0),
+  jobs-ordered launch t js (o .1),
 )
 
 -- The jobs of an accepted table that is not nested, last first, are similar jobs.
-pub similar-jobs : (t : Table) → Legal t → isNested t ≡ false → Similar (jobsLastFirst t)
+pub similar-jobs : (launch : ℕ) (t : Table) → Legal t → isNested t ≡ false → Similar (jobsLastFirst launch t)
 unfolding jobsLastFirst
-similar-jobs t l e =
+similar-jobs launch t l e =
     record {
-      ordered = jobs-ordered t (orderLastFirst t)
+      ordered = jobs-ordered launch t (orderLastFirst t)
           (subst⁻¹ (Sorted (notAfter t)) (order-similar t e)
           (falls-by (similarBefore t) (notAfter t) (t .count) (similar-strict t) (similar-notAfter t (legal-similar t l e))));
-      distinct = jobs-distinct t;
+      distinct = jobs-distinct launch t;
     }

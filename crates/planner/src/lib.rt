@@ -1,4 +1,4 @@
-// Planning (an entry point): reading's refusals, then 8 and 9, then the choice of optional parts and the placing of work, and the marks and runs
+// Planning (an entry point): reading's refusals, then 14, 8 and 9, then the choice of optional parts and the placing of work, and the marks and runs
 // in the lent lists.
 ghost use mathlib.Core.Path.{_≡_};
 ghost use mathlib.Core.Bool.{true, false};
@@ -13,9 +13,11 @@ ghost use Rattle.table.specs.Writing.{Legal};
 ghost use Rattle.schedule.specs.Jobs.{noJob, Bounded};
 ghost use Rattle.base.specs.Members.{Any, Distinct};
 ghost use Rattle.placement.specs.Chains.{positions};
-ghost use Rattle.orders.specs.KindOrder.{jobsLastFirst};
-ghost use Rattle.plans.specs.Planning.{exceedingAfter, mandatoryFit, tooShort, markAt, planDeclined, planMade, planOf};
-ghost use Rattle.plans.specs.Planning.{lent, shortLists, planTable, planReply, planWritten, listsAfter};
+ghost use Rattle.choice.specs.Choice.{keepNone};
+ghost use Rattle.plans.specs.Planning.{exceedingAfter, fitsBy, tooShort, markAt, planDeclined, planMade, madeBy, replyBy, writtenBy, afterBy};
+ghost use Rattle.plans.specs.Planning.{lent, shortLists, planTable, planReply, listsAfter};
+ghost use Rattle.plans.specs.Launch.{EarlierAtZero, LaterByLaunch};
+ghost use Rattle.plans.specs.KindJobs.{HeldJobs};
 ghost use Rattle.plans.specs.Demands.{EightExactly, JudgeAccepts, PlannedOptimal};
 ghost use Rattle.plans.specs.Rules.{PlannedByRules, EightFirst};
 use base::MAX_TASKS;
@@ -107,25 +109,22 @@ fn put_marks(jobs: [Job; MAX_TASKS], keeps: [bool; MAX_TASKS], count: usize, mar
     }
 }
 
-// The plan of a nested table whose mandatory parts fit, into lists that are long enough. Its jobs stand outermost first.
+// The plan of nested jobs whose mandatory parts fit, into lists that are long enough. They stand outermost first at the first `count` places.
 fn put_nested(
-    table: Table,
     jobs: [Job; MAX_TASKS],
+    count: usize,
     marks: &mut [u8],
     starts: &mut [u32],
     ends: &mut [u32],
     tasks: &mut [u32],
 ) -> Planned
-    requires { ⌜ Legal table ⌝ }
-    requires { ⌜ isNested table ≡ true ⌝ }
-    requires { ⌜ firstPlaces noJob jobs (table .count) ≡ jobsLastFirst table ⌝ }
-    requires { ⌜ mandatoryFit table ≡ true ⌝ }
-    requires { ⌜ shortLists (table .count) (lent (now marks) (now starts) (now ends) (now tasks)) ≡ false ⌝ }
-    ensures { λ r. ⌜ r ≡ planOf table ⌝ }
+    requires { ⌜ HeldJobs true jobs count ⌝ }
+    requires { ⌜ fitsBy true (firstPlaces noJob jobs count) (keepNone (firstPlaces noJob jobs count)) ≡ true ⌝ }
+    requires { ⌜ shortLists count (lent (now marks) (now starts) (now ends) (now tasks)) ≡ false ⌝ }
+    ensures { λ r. ⌜ r ≡ madeBy true (firstPlaces noJob jobs count) ⌝ }
     ensures { λ r. ⌜ lent (now (marks .exit)) (now (starts .exit)) (now (ends .exit)) (now (tasks .exit))
-        ≡ planWritten table (lent (now (marks .entry)) (now (starts .entry)) (now (ends .entry)) (now (tasks .entry))) ⌝ }
+        ≡ writtenBy true count (firstPlaces noJob jobs count) (lent (now (marks .entry)) (now (starts .entry)) (now (ends .entry)) (now (tasks .entry))) ⌝ }
 {
-    let count = table.count as usize;
     let choice = choosing::choose(jobs, count);
     let keeps = choice.keeps;
     put_marks(jobs, keeps, count, marks);
@@ -133,23 +132,21 @@ fn put_nested(
     planned(choice.kept, choice.discarded, runs)
 }
 
-// Planning a nested table: 8, then 9, then the plan. Its jobs stand outermost first.
+// Planning nested jobs: 8, then 9, then the plan. They stand outermost first at the first `count` places.
 fn plan_nested(
-    table: Table,
     jobs: [Job; MAX_TASKS],
+    count: usize,
     marks: &mut [u8],
     starts: &mut [u32],
     ends: &mut [u32],
     tasks: &mut [u32],
 ) -> Planned
-    requires { ⌜ Legal table ⌝ }
-    requires { ⌜ isNested table ≡ true ⌝ }
-    requires { ⌜ firstPlaces noJob jobs (table .count) ≡ jobsLastFirst table ⌝ }
-    ensures { λ r. ⌜ r ≡ planTable table (lent (now (marks .entry)) (now (starts .entry)) (now (ends .entry)) (now (tasks .entry))) ⌝ }
+    requires { ⌜ HeldJobs true jobs count ⌝ }
+    ensures { λ r. ⌜ r ≡ replyBy true count (firstPlaces noJob jobs count)
+        (lent (now (marks .entry)) (now (starts .entry)) (now (ends .entry)) (now (tasks .entry))) ⌝ }
     ensures { λ r. ⌜ lent (now (marks .exit)) (now (starts .exit)) (now (ends .exit)) (now (tasks .exit))
-        ≡ listsAfter table r (lent (now (marks .entry)) (now (starts .entry)) (now (ends .entry)) (now (tasks .entry))) ⌝ }
+        ≡ afterBy true count (firstPlaces noJob jobs count) r (lent (now (marks .entry)) (now (starts .entry)) (now (ends .entry)) (now (tasks .entry))) ⌝ }
 {
-    let count = table.count as usize;
     let unmet = first_exceeding(jobs, count);
     if unmet < count {
         return declined(8, unmet);
@@ -157,28 +154,25 @@ fn plan_nested(
     if too_short(count, marks.len(), starts.len(), ends.len(), tasks.len()) {
         return declined(9, 0);
     }
-    put_nested(table, jobs, marks, starts, ends, tasks)
+    put_nested(jobs, count, marks, starts, ends, tasks)
 }
 
-// The plan of a similar table whose mandatory parts fit, into lists that are long enough. Its jobs stand last first.
+// The plan of similar jobs whose mandatory parts fit, into lists that are long enough. They stand last first at the first `count` places.
 fn put_similar(
-    table: Table,
     jobs: [Job; MAX_TASKS],
+    count: usize,
     marks: &mut [u8],
     starts: &mut [u32],
     ends: &mut [u32],
     tasks: &mut [u32],
 ) -> Planned
-    requires { ⌜ Legal table ⌝ }
-    requires { ⌜ isNested table ≡ false ⌝ }
-    requires { ⌜ firstPlaces noJob jobs (table .count) ≡ jobsLastFirst table ⌝ }
-    requires { ⌜ mandatoryFit table ≡ true ⌝ }
-    requires { ⌜ shortLists (table .count) (lent (now marks) (now starts) (now ends) (now tasks)) ≡ false ⌝ }
-    ensures { λ r. ⌜ r ≡ planOf table ⌝ }
+    requires { ⌜ HeldJobs false jobs count ⌝ }
+    requires { ⌜ fitsBy false (firstPlaces noJob jobs count) (keepNone (firstPlaces noJob jobs count)) ≡ true ⌝ }
+    requires { ⌜ shortLists count (lent (now marks) (now starts) (now ends) (now tasks)) ≡ false ⌝ }
+    ensures { λ r. ⌜ r ≡ madeBy false (firstPlaces noJob jobs count) ⌝ }
     ensures { λ r. ⌜ lent (now (marks .exit)) (now (starts .exit)) (now (ends .exit)) (now (tasks .exit))
-        ≡ planWritten table (lent (now (marks .entry)) (now (starts .entry)) (now (ends .entry)) (now (tasks .entry))) ⌝ }
+        ≡ writtenBy false count (firstPlaces noJob jobs count) (lent (now (marks .entry)) (now (starts .entry)) (now (ends .entry)) (now (tasks .entry))) ⌝ }
 {
-    let count = table.count as usize;
     let choice = sequencing::choose(jobs, count);
     let keeps = choice.keeps;
     put_marks(jobs, keeps, count, marks);
@@ -186,23 +180,21 @@ fn put_similar(
     planned(choice.kept, choice.discarded, runs)
 }
 
-// Planning a similar table: 8, then 9, then the plan. Its jobs stand last first.
+// Planning similar jobs: 8, then 9, then the plan. They stand last first at the first `count` places.
 fn plan_similar(
-    table: Table,
     jobs: [Job; MAX_TASKS],
+    count: usize,
     marks: &mut [u8],
     starts: &mut [u32],
     ends: &mut [u32],
     tasks: &mut [u32],
 ) -> Planned
-    requires { ⌜ Legal table ⌝ }
-    requires { ⌜ isNested table ≡ false ⌝ }
-    requires { ⌜ firstPlaces noJob jobs (table .count) ≡ jobsLastFirst table ⌝ }
-    ensures { λ r. ⌜ r ≡ planTable table (lent (now (marks .entry)) (now (starts .entry)) (now (ends .entry)) (now (tasks .entry))) ⌝ }
+    requires { ⌜ HeldJobs false jobs count ⌝ }
+    ensures { λ r. ⌜ r ≡ replyBy false count (firstPlaces noJob jobs count)
+        (lent (now (marks .entry)) (now (starts .entry)) (now (ends .entry)) (now (tasks .entry))) ⌝ }
     ensures { λ r. ⌜ lent (now (marks .exit)) (now (starts .exit)) (now (ends .exit)) (now (tasks .exit))
-        ≡ listsAfter table r (lent (now (marks .entry)) (now (starts .entry)) (now (ends .entry)) (now (tasks .entry))) ⌝ }
+        ≡ afterBy false count (firstPlaces noJob jobs count) r (lent (now (marks .entry)) (now (starts .entry)) (now (ends .entry)) (now (tasks .entry))) ⌝ }
 {
-    let count = table.count as usize;
     let late = sequencing::first_late(jobs, count);
     if late < count {
         return declined(8, late);
@@ -210,13 +202,14 @@ fn plan_similar(
     if too_short(count, marks.len(), starts.len(), ends.len(), tasks.len()) {
         return declined(9, 0);
     }
-    put_similar(table, jobs, marks, starts, ends, tasks)
+    put_similar(jobs, count, marks, starts, ends, tasks)
 }
 
-// Planning the table of an accepted file, by its kind.
+// Planning the table of an accepted file at a launch tick, by its kind: 14 first.
 fn plan_table(
     table: Table,
     nested: bool,
+    launch: u32,
     marks: &mut [u8],
     starts: &mut [u32],
     ends: &mut [u32],
@@ -224,18 +217,22 @@ fn plan_table(
 ) -> Planned
     requires { ⌜ Legal table ⌝ }
     requires { ⌜ nested ≡ isNested table ⌝ }
-    ensures { λ r. ⌜ r ≡ planTable table (lent (now (marks .entry)) (now (starts .entry)) (now (ends .entry)) (now (tasks .entry))) ⌝ }
+    ensures { λ r. ⌜ r ≡ planTable launch table (lent (now (marks .entry)) (now (starts .entry)) (now (ends .entry)) (now (tasks .entry))) ⌝ }
     ensures { λ r. ⌜ lent (now (marks .exit)) (now (starts .exit)) (now (ends .exit)) (now (tasks .exit))
-        ≡ listsAfter table r (lent (now (marks .entry)) (now (starts .entry)) (now (ends .entry)) (now (tasks .entry))) ⌝ }
+        ≡ listsAfter launch table r (lent (now (marks .entry)) (now (starts .entry)) (now (ends .entry)) (now (tasks .entry))) ⌝ }
 {
+    if clock::bad_launch(launch) {
+        return declined(14, 0);
+    }
+    let count = table.count as usize;
     if nested {
         let keys = ordering::keys_by(table, true);
-        let jobs = ordering::jobs_last_first(table, keys);
-        return plan_nested(table, jobs, marks, starts, ends, tasks);
+        let jobs = ordering::jobs_last_first(table, launch, keys);
+        return plan_nested(jobs, count, marks, starts, ends, tasks);
     }
     let keys = ordering::keys_by(table, false);
-    let jobs = ordering::jobs_last_first(table, keys);
-    plan_similar(table, jobs, marks, starts, ends, tasks)
+    let jobs = ordering::jobs_last_first(table, launch, keys);
+    plan_similar(jobs, count, marks, starts, ends, tasks)
 }
 
 // A reply of planning with the task count of the table that was read, which is 0 where reading refuses.
@@ -244,9 +241,10 @@ pub struct Counted {
     pub reply: Planned,
 }
 
-// Planning a file, with its task count, for callers that print the plan.
+// Planning a file at a launch tick, with its task count, for callers that print the plan.
 pub fn plan_counted(
     file: &[u8],
+    launch: u32,
     marks: &mut [u8],
     starts: &mut [u32],
     ends: &mut [u32],
@@ -254,9 +252,9 @@ pub fn plan_counted(
 ) -> Counted
     ensures { λ r. ⌜ r .count ≡ reading (now (file .entry)) .table .count ⌝ }
     ensures { λ r. ⌜ r .reply
-        ≡ planReply (now (file .entry)) (lent (now (marks .entry)) (now (starts .entry)) (now (ends .entry)) (now (tasks .entry))) ⌝ }
+        ≡ planReply launch (now (file .entry)) (lent (now (marks .entry)) (now (starts .entry)) (now (ends .entry)) (now (tasks .entry))) ⌝ }
     ensures { λ r. ⌜ lent (now (marks .exit)) (now (starts .exit)) (now (ends .exit)) (now (tasks .exit))
-        ≡ listsAfter (tableIn (now (file .entry))) (r .reply) (lent (now (marks .entry)) (now (starts .entry)) (now (ends .entry)) (now (tasks .entry))) ⌝ }
+        ≡ listsAfter launch (tableIn (now (file .entry))) (r .reply) (lent (now (marks .entry)) (now (starts .entry)) (now (ends .entry)) (now (tasks .entry))) ⌝ }
 {
     let read = reading::read(file);
     let table = read.table;
@@ -266,32 +264,39 @@ pub fn plan_counted(
         let reply = declined(answer.number(), answer.place());
         return Counted { count, reply };
     };
-    let reply = plan_table(table, read.nested, marks, starts, ends, tasks);
+    let reply = plan_table(table, read.nested, launch, marks, starts, ends, tasks);
     Counted { count, reply }
 }
 
-// Planning: any bytes get the reply of documents 01 and 02. Where nothing is refused, the marks by position and the runs by start stand in the lent lists;
-// a refusal changes none of them.
+// Planning: any bytes and any launch tick get the reply of documents 01 and 02. Where nothing is refused, the marks by position and the runs by start
+// stand in the lent lists; a refusal changes none of them.
 pub fn plan(
     file: &[u8],
+    launch: u32,
     marks: &mut [u8],
     starts: &mut [u32],
     ends: &mut [u32],
     tasks: &mut [u32],
 ) -> Planned
-    ensures reply { λ r. ⌜ r ≡ planReply (now (file .entry)) (lent (now (marks .entry)) (now (starts .entry)) (now (ends .entry)) (now (tasks .entry))) ⌝ }
+    ensures reply { λ r. ⌜ r ≡ planReply launch (now (file .entry)) (lent (now (marks .entry)) (now (starts .entry)) (now (ends .entry)) (now (tasks .entry))) ⌝ }
     ensures lists_after { λ r. ⌜ lent (now (marks .exit)) (now (starts .exit)) (now (ends .exit)) (now (tasks .exit))
-        ≡ listsAfter (tableIn (now (file .entry))) r (lent (now (marks .entry)) (now (starts .entry)) (now (ends .entry)) (now (tasks .entry))) ⌝ }
-    ensures demand_2_refusal { λ r. ⌜ EightExactly (now (file .entry)) r ⌝ }
-    ensures demand_2_judge { λ r. ⌜ JudgeAccepts (now (file .entry)) r
+        ≡ listsAfter launch (tableIn (now (file .entry))) r (lent (now (marks .entry)) (now (starts .entry)) (now (ends .entry)) (now (tasks .entry))) ⌝ }
+    ensures demand_2_refusal { λ r. ⌜ EightExactly launch (now (file .entry)) r ⌝ }
+    ensures demand_2_judge { λ r. ⌜ JudgeAccepts launch (now (file .entry)) r
         (lent (now (marks .exit)) (now (starts .exit)) (now (ends .exit)) (now (tasks .exit))) ⌝ }
-    ensures demand_3 { λ r. ⌜ PlannedOptimal (now (file .entry)) r
+    ensures demand_3 { λ r. ⌜ PlannedOptimal launch (now (file .entry)) r
         (lent (now (marks .exit)) (now (starts .exit)) (now (ends .exit)) (now (tasks .exit))) ⌝ }
-    ensures by_rules { λ r. ⌜ PlannedByRules (now (file .entry)) r
+    ensures by_rules { λ r. ⌜ PlannedByRules launch (now (file .entry)) r
         (lent (now (marks .exit)) (now (starts .exit)) (now (ends .exit)) (now (tasks .exit))) ⌝ }
-    ensures eight_first { λ r. ⌜ EightFirst (now (file .entry)) r ⌝ }
+    ensures eight_first { λ r. ⌜ EightFirst launch (now (file .entry)) r ⌝ }
+    ensures earlier_at_0 { λ r. ⌜ EarlierAtZero launch (now (file .entry)) r
+        (lent (now (marks .entry)) (now (starts .entry)) (now (ends .entry)) (now (tasks .entry)))
+        (lent (now (marks .exit)) (now (starts .exit)) (now (ends .exit)) (now (tasks .exit))) ⌝ }
+    ensures later_by_launch { λ r. ⌜ LaterByLaunch launch (now (file .entry)) r
+        (lent (now (marks .entry)) (now (starts .entry)) (now (ends .entry)) (now (tasks .entry)))
+        (lent (now (marks .exit)) (now (starts .exit)) (now (ends .exit)) (now (tasks .exit))) ⌝ }
 {
-    let counted = plan_counted(file, marks, starts, ends, tasks);
+    let counted = plan_counted(file, launch, marks, starts, ends, tasks);
     let reply = counted.reply;
     reply
 }

@@ -1,32 +1,36 @@
--- What the code holds of a table in arrays, and what it means: the jobs in the order of its kind, last first, and their keep list.
+-- What the code holds of jobs in arrays, and what it means: the jobs of a table in the order of its kind, last first, and their keep list.
 use Prim.Native.Nat.{ℕ, _-_, _*_, _≤_, _<_}
-use mathlib.Core.Path.{_≡_, refl, sym, ap, ap₂, _∙_}
+use mathlib.Core.Path.{_≡_, refl, sym, ap, _∙_}
 use mathlib.Core.Bool.{Bool, true, false}
 use mathlib.Core.List.{List, _++_, map}
 use lib.Dec.{ltb}
 use lib.ListN.{length, getD, drop}
-use borrow.Author.Tests.{ltb-false}
+use borrow.Author.Tests.{le-ltb, ltb-false, not-false}
+use Rattle.base.specs.Limits.{maxLaunch}
 use Rattle.base.specs.Tests.{or}
 use Rattle.base.specs.Places.{places, firstPlaces}
 use Rattle.base.specs.Lent.{writtenFront}
+use Rattle.base.specs.Members.{All, Distinct}
 use Rattle.base.proofs.TestLaws.{or-left, or-right}
+use Rattle.base.proofs.MemberLaws.{all-places}
+use Rattle.base.proofs.PlaceLaws.{places-length}
 use Rattle.table.specs.declared.Table.{Table}
 use Rattle.table.specs.Kinds.{isNested}
 use Rattle.table.specs.Writing.{Legal}
+use Rattle.table.proofs.FileLaws.{legal-count}
 use Rattle.schedule.specs.declared.Job.{Job}
 use Rattle.schedule.specs.declared.Run.{Run}
 use Rattle.schedule.specs.Jobs.{noJob, Bounded}
-use Rattle.base.specs.Members.{Any, Distinct}
 use Rattle.schedule.proofs.JudgeLaws.{job-position}
-use Rattle.base.proofs.MemberLaws.{all-places}
 use Rattle.choice.specs.Choice.{keepNone, kept, discarded}
 use Rattle.placement.specs.Chains.{positions}
 use Rattle.orders.specs.KindOrder.{jobsLastFirst}
-use Rattle.orders.proofs.OrderLaws.{any-jobs, jobs-bounded, jobs-distinct}
-use Rattle.plans.specs.Planning.{unmetBy, fitsBy, chosenAs, runsBy, firstUnmet, tooShort, keepList, markAt, planMarks, planRuns, planMade, planOf, mandatoryFit}
-use Rattle.plans.specs.KindJobs.{JobsOfKind}
+use Rattle.orders.proofs.OrderLaws.{any-jobs, jobs-bounded}
+use Rattle.plans.specs.Planning.{unmetBy, fitsBy, chosenAs, runsBy, tooShort, markAt, marksBy, planRunsBy, planMade, madeBy}
+use Rattle.plans.specs.KindJobs.{HeldJobs}
+use Rattle.plans.proofs.JobPlans.{distinct-by, unmet-test, chosen-by}
 use Rattle.plans.proofs.TableJobs.{kind-jobs}
-use Rattle.plans.proofs.PlanLaws.{jobs-below, keeps-fit, marks-length}
+use Rattle.plans.proofs.PlanLaws.{jobs-below}
 
 -- the lists are long enough
 pub record Room (n marks starts ends tasks : ℕ) : Type 0 where
@@ -48,69 +52,56 @@ room-known n marks starts ends tasks e =
       tasks-room = ltb-false tasks (2 * n - 1) (or-right (ltb ends (2 * n - 1)) (ltb tasks (2 * n - 1)) last);
     }
 
--- An array that holds the jobs of an accepted table in the order of its kind, last first.
-module _ (t : Table) (legal : Legal t) (jobs : List Job) (same : firstPlaces noJob jobs (t .count) ≡ jobsLastFirst t) where
-  -- they are within the limits
-  pub array-bounded : (k : ℕ) → k < t .count → Bounded (getD jobs k noJob)
-  array-bounded = all-places Bounded (λ k. getD jobs k noJob) (t .count) .0 (rw same (jobs-bounded t legal))
+-- An array whose first places are the jobs of an accepted table at an accepted launch tick, in the order of its kind, last first.
+pub held-table : (launch : ℕ) (t : Table) → launch ≤ maxLaunch → Legal t → (jobs : List Job) → firstPlaces noJob jobs (t .count) ≡ jobsLastFirst launch t
+    → HeldJobs (isNested t) jobs (t .count)
+held-table launch t low legal jobs same =
+    record {
+      some = legal-count legal .0;
+      few = legal-count legal .1;
+      kind = rw same (kind-jobs launch t legal);
+      bounded = all-places Bounded (λ k. getD jobs k noJob) (t .count) .0 (rw same (jobs-bounded launch t low legal));
+      below = all-places (λ job. job .position < t .count) (λ k. getD jobs k noJob) (t .count) .0 (rw same (jobs-below launch t));
+      cover = λ k l. rw same (any-jobs launch t (λ job. job .position ≡ k) .1 (k, l, job-position launch t k));
+    }
 
-  -- their positions are below the count, no two are equal, and each is there
-  pub array-below : (k : ℕ) → k < t .count → getD jobs k noJob .position < t .count
-  array-below = all-places (λ job. job .position < t .count) (λ k. getD jobs k noJob) (t .count) .0 (rw same (jobs-below t))
+-- An array that holds n jobs of a kind.
+module _ (nested : Bool) (jobs : List Job) (n : ℕ) (held : HeldJobs nested jobs n) where
+  -- no two have one position
+  pub array-distinct : Distinct (positions (firstPlaces noJob jobs n))
+  array-distinct = distinct-by nested (firstPlaces noJob jobs n) (held .kind)
 
-  pub array-distinct : Distinct (positions (firstPlaces noJob jobs (t .count)))
-  array-distinct = rw same (jobs-distinct t)
+  -- where no unmet job is found the mandatory parts alone fit
+  pub array-none : n ≤ unmetBy nested n (firstPlaces noJob jobs n) → fitsBy nested (firstPlaces noJob jobs n) (keepNone (firstPlaces noJob jobs n)) ≡ true
+  array-none l =
+      let below : All (λ job. job .position < n) (firstPlaces noJob jobs n) = all-places (λ job. job .position < n) (λ k. getD jobs k noJob) n .1 (held .below) in
+      let fit = fitsBy nested (firstPlaces noJob jobs n) (keepNone (firstPlaces noJob jobs n)) in
+      not-false fit (sym (unmet-test nested n (firstPlaces noJob jobs n) below) ∙ le-ltb (unmetBy nested n (firstPlaces noJob jobs n)) n l)
 
-  pub array-cover : (k : ℕ) → k < t .count → Any (λ job. job .position ≡ k) (firstPlaces noJob jobs (t .count))
-  array-cover k l = rw same (any-jobs t (λ job. job .position ≡ k) .1 (k, l, job-position t k))
+  -- An array that holds their keep list.
+  module _ (none : fitsBy nested (firstPlaces noJob jobs n) (keepNone (firstPlaces noJob jobs n)) ≡ true) (keeps : List Bool)
+      (list : firstPlaces false keeps n ≡ chosenAs nested (firstPlaces noJob jobs n)) where
+    -- it fits
+    pub array-fits : fitsBy nested (firstPlaces noJob jobs n) (firstPlaces false keeps n) ≡ true
+    array-fits = rw list (chosen-by nested (firstPlaces noJob jobs n) none)
 
-  -- By the table's kind.
-  module _ (nested : Bool) (is : isNested t ≡ nested) where
-    -- they are of that kind
-    pub array-kind : JobsOfKind nested (firstPlaces noJob jobs (t .count))
-    array-kind = rw (← is, same) (kind-jobs t legal)
+    -- the marks put
+    pub array-marks : (lent : List ℕ)
+        → places (markAt (firstPlaces noJob jobs n) (firstPlaces false keeps n)) n ++ drop n lent ≡ writtenFront (marksBy nested n (firstPlaces noJob jobs n)) lent
+    unfolding marksBy
+    array-marks lent = rw (list, places-length (markAt (firstPlaces noJob jobs n) (chosenAs nested (firstPlaces noJob jobs n))) n) refl
 
-    -- the first unmet one
-    pub array-unmet : unmetBy nested (t .count) (firstPlaces noJob jobs (t .count)) ≡ firstUnmet t
-    unfolding firstUnmet
-    array-unmet = rw (← is) (ap (unmetBy (isNested t) (t .count)) same)
+    -- a column of the runs put
+    pub array-column : (part : Run → ℕ) (lent : List ℕ)
+        → writtenFront (map part (runsBy nested (firstPlaces noJob jobs n) (firstPlaces false keeps n))) lent
+        ≡ writtenFront (map part (planRunsBy nested (firstPlaces noJob jobs n))) lent
+    unfolding planRunsBy
+    array-column part lent = ap (λ (list : List Bool). writtenFront (map part (runsBy nested (firstPlaces noJob jobs n) list)) lent) list
 
-    module _ (none : mandatoryFit t ≡ true) where
-      pub array-none : fitsBy nested (firstPlaces noJob jobs (t .count)) (keepNone (firstPlaces noJob jobs (t .count))) ≡ true
-      unfolding mandatoryFit
-      array-none = rw (← is, same) none
-
-      -- An array that holds their keep list.
-      module _ (keeps : List Bool) (list : firstPlaces false keeps (t .count) ≡ chosenAs nested (firstPlaces noJob jobs (t .count))) where
-        keeps-are : firstPlaces false keeps (t .count) ≡ keepList t
-        unfolding keepList
-        keeps-are = list ∙ rw (← is) (ap (chosenAs (isNested t)) same)
-
-        pub array-fits : fitsBy nested (firstPlaces noJob jobs (t .count)) (firstPlaces false keeps (t .count)) ≡ true
-        array-fits = rw (← is, keeps-are, same) (keeps-fit t legal none)
-
-        -- the marks put
-        pub array-marks : (lent : List ℕ)
-            → places (markAt (firstPlaces noJob jobs (t .count)) (firstPlaces false keeps (t .count))) (t .count) ++ drop (t .count) lent
-            ≡ writtenFront (planMarks t) lent
-        unfolding planMarks
-        array-marks lent = rw (keeps-are, same, marks-length t legal none) refl
-
-        -- the runs placed
-        runs-are : runsBy nested (firstPlaces noJob jobs (t .count)) (firstPlaces false keeps (t .count)) ≡ planRuns t
-        unfolding planRuns
-        runs-are = rw (← is) (ap₂ (λ (js : List Job) (ks : List Bool). runsBy (isNested t) js ks) same keeps-are)
-
-        -- a column of them put
-        pub array-column : (part : Run → ℕ) (lent : List ℕ)
-            → writtenFront (map part (runsBy nested (firstPlaces noJob jobs (t .count)) (firstPlaces false keeps (t .count)))) lent
-            ≡ writtenFront (map part (planRuns t)) lent
-        array-column part lent = ap (λ (runs : List Run). writtenFront (map part runs) lent) runs-are
-
-        -- the reply
-        pub array-reply : (runs k d : ℕ) → runs ≡ length (runsBy nested (firstPlaces noJob jobs (t .count)) (firstPlaces false keeps (t .count)))
-            → k ≡ kept (firstPlaces noJob jobs (t .count)) (chosenAs nested (firstPlaces noJob jobs (t .count)))
-            → d ≡ discarded (firstPlaces noJob jobs (t .count)) (chosenAs nested (firstPlaces noJob jobs (t .count)))
-            → planMade k d runs ≡ planOf t
-        unfolding planOf keepList
-        array-reply runs k d n e f = rw (n ∙ ap length runs-are, e, f, same, ← is) refl
+    -- the reply
+    pub array-reply : (runs k d : ℕ) → runs ≡ length (runsBy nested (firstPlaces noJob jobs n) (firstPlaces false keeps n))
+        → k ≡ kept (firstPlaces noJob jobs n) (chosenAs nested (firstPlaces noJob jobs n))
+        → d ≡ discarded (firstPlaces noJob jobs n) (chosenAs nested (firstPlaces noJob jobs n))
+        → planMade k d runs ≡ madeBy nested (firstPlaces noJob jobs n)
+    unfolding madeBy planRunsBy
+    array-reply runs k d e f g = rw (e, f, g, list) refl

@@ -26,61 +26,61 @@ use Rattle.plans.proofs.ExceedLaws.{exceeding-append, sum-reverse, exce
 use Rattle.plans.proofs.PlanLaws.{jobs-below}
 use Rattle.plans.proofs.UpToLaws.{listUpTo, up-first, up-rest, list-within, up-order, works-within}
 
-module _ (t : Table) where
+module _ (launch : ℕ) (t : Table) where
   -- the mandatory ticks of the task at a position
   abbrev mandatoryAt : ℕ → ℕ
-  mandatoryAt j = jobAt t j .mandatory
+  mandatoryAt j = jobAt launch t j .mandatory
 
   -- among some positions, those up to a task come to no more than the ticks of its window
   abbrev ListWithin : List ℕ → ℕ → Type 0
-  ListWithin js k = listUpTo t mandatoryAt js k ≤ windowTicks (jobAt t k)
+  ListWithin js k = listUpTo launch t mandatoryAt js k ≤ windowTicks (jobAt launch t k)
 
   -- the works of jobs under the list that keeps nothing are their mandatory ticks
-  none-works : (js : List ℕ) → worksOf (map (jobAt t) js) (keepNone (map (jobAt t) js)) ≡ map mandatoryAt js
+  none-works : (js : List ℕ) → worksOf (map (jobAt launch t) js) (keepNone (map (jobAt launch t) js)) ≡ map mandatoryAt js
   unfolding worksOf
   none-works [] = refl
   none-works (j ∷ js) =
-      let e : jobAt t j .mandatory + 0 ≡ jobAt t j .mandatory = omega arith in
+      let e : jobAt launch t j .mandatory + 0 ≡ jobAt launch t j .mandatory = omega arith in
       ap₂ (λ (x : ℕ) (xs : List ℕ). x ∷ xs) e (none-works js)
 
   -- their sum
-  mandatory-sum : (js : List ℕ) → mandatorySum (map (jobAt t) js) ≡ sumOver mandatoryAt js
+  mandatory-sum : (js : List ℕ) → mandatorySum (map (jobAt launch t) js) ≡ sumOver mandatoryAt js
   unfolding mandatorySum sumOver
   mandatory-sum [] = refl
-  mandatory-sum (j ∷ js) = ap (λ (x : ℕ). jobAt t j .mandatory + x) (mandatory-sum js)
+  mandatory-sum (j ∷ js) = ap (λ (x : ℕ). jobAt launch t j .mandatory + x) (mandatory-sum js)
 
   -- the jobs of positions below n have positions below n
-  positions-below : (n : ℕ) (js : List ℕ) → All (λ j. j < n) js → All (λ job. job .position < n) (map (jobAt t) js)
+  positions-below : (n : ℕ) (js : List ℕ) → All (λ j. j < n) js → All (λ job. job .position < n) (map (jobAt launch t) js)
   positions-below n [] b = tt
-  positions-below n (j ∷ js) b = (rw (job-position t j) (b .0), positions-below n js (b .1))
+  positions-below n (j ∷ js) b = (rw (job-position launch t j) (b .0), positions-below n js (b .1))
 
   -- the search over positions that stand last first
   abbrev found : ℕ → List ℕ → ℕ
-  found n js = exceedingAfter n 0 (reverse (map (jobAt t) js))
+  found n js = exceedingAfter n 0 (reverse (map (jobAt launch t) js))
 
   -- where it finds nothing, no task exceeds its window
   none-found : (n : ℕ) (js : List ℕ) → All (λ j. j < n) js → Sorted (kindBefore t) js → ltb (found n js) n ≡ false → All (ListWithin js) js
   none-found n js b s e =
-      list-within t mandatoryAt js s .0
+      list-within launch t mandatoryAt js s .0
       (rw (none-works js) at
-      (not-false (fits (map (jobAt t) js) (keepNone (map (jobAt t) js))) (sym (exceeding-test n (map (jobAt t) js) (positions-below n js b)) ∙ e)))
+      (not-false (fits (map (jobAt launch t) js) (keepNone (map (jobAt launch t) js))) (sym (exceeding-test n (map (jobAt launch t) js) (positions-below n js b)) ∙ e)))
 
   -- the first task among some positions that exceeds its window
   record FirstIn (js : List ℕ) (place : ℕ) : Type 0 where
     member : Any (λ j. j ≡ place) js
-    exceeds : windowTicks (jobAt t place) < listUpTo t mandatoryAt js place
+    exceeds : windowTicks (jobAt launch t place) < listUpTo launch t mandatoryAt js place
     first : All (λ k. kindBefore t k place ≡ true → ListWithin js k) js
 
   -- the search with one more task, the last: what it finds among the others, or that task
   found-more : (n k : ℕ) (js : List ℕ) → All (λ j. j < n) js
       → found n (k ∷ js)
-      ≡ pick (ltb (found n js) n) (found n js) (pick (ltb (windowTicks (jobAt t k)) (sumOver mandatoryAt js + jobAt t k .mandatory)) k n)
+      ≡ pick (ltb (found n js) n) (found n js) (pick (ltb (windowTicks (jobAt launch t k)) (sumOver mandatoryAt js + jobAt launch t k .mandatory)) k n)
   unfolding exceedingAfter
   found-more n k js b =
-      let sum : 0 + mandatorySum (reverse (map (jobAt t) js)) ≡ sumOver mandatoryAt js = omega (arith, sum-reverse (map (jobAt t) js), mandatory-sum js) in
-      rw (reverse-cons (jobAt t k) (map (jobAt t) js))
-      (exceeding-append n 0 (reverse (map (jobAt t) js)) (jobAt t k ∷ []) (all-reverse (λ job. job .position < n) (map (jobAt t) js) (positions-below n js b))
-      ∙ rw (sum, job-position t k))
+      let sum : 0 + mandatorySum (reverse (map (jobAt launch t) js)) ≡ sumOver mandatoryAt js = omega (arith, sum-reverse (map (jobAt launch t) js), mandatory-sum js) in
+      rw (reverse-cons (jobAt launch t k) (map (jobAt launch t) js))
+      (exceeding-append n 0 (reverse (map (jobAt launch t) js)) (jobAt launch t k ∷ []) (all-reverse (λ job. job .position < n) (map (jobAt launch t) js) (positions-below n js b))
+      ∙ rw (sum, job-position launch t k))
 
   -- what it finds is the first task that exceeds its window
   first-in : (n : ℕ) (js : List ℕ) → All (λ j. j < n) js → Sorted (kindBefore t) js → (place : ℕ) → found n js ≡ place → place < n → FirstIn js place
@@ -98,60 +98,60 @@ module _ (t : Table) where
       let before : kindBefore t place k ≡ true = inner place (r .member) in
       record {
         member = inr (r .member);
-        exceeds = rw (up-rest t mandatoryAt k place js before) (r .exceeds);
+        exceeds = rw (up-rest launch t mandatoryAt k place js before) (r .exceeds);
         first = (
           λ h. both-absurd (kindBefore t k place) h (kind-once t place k before),
-          long .1 (λ i m h. rw (up-rest t mandatoryAt k i js (inner i m)) (short i m h)),
+          long .1 (λ i m h. rw (up-rest launch t mandatoryAt k i js (inner i m)) (short i m h)),
         );
       })
       (λ f.
       let others = all-members (ListWithin js) js .0 (none-found n js (b .1) (s .1) f) in
-      let sum = up-first t mandatoryAt k js (s .0) in
-      cases (ltb (windowTicks (jobAt t k)) (sumOver mandatoryAt js + jobAt t k .mandatory))
+      let sum = up-first launch t mandatoryAt k js (s .0) in
+      cases (ltb (windowTicks (jobAt launch t k)) (sumOver mandatoryAt js + jobAt launch t k .mandatory))
       (λ g.
-      let over = ltb-true (windowTicks (jobAt t k)) (sumOver mandatoryAt js + jobAt t k .mandatory) g in
+      let over = ltb-true (windowTicks (jobAt launch t k)) (sumOver mandatoryAt js + jobAt launch t k .mandatory) g in
       let is : k ≡ place = sym (rw (f, g) at more) ∙ e in
       record {
         member = inl is;
         exceeds = rw (← is) (omega arith);
         first = (
           λ h. let self : kindBefore t k k ≡ true = rw (← is) at h in both-absurd (kindBefore t k k) self (kind-once t k k self),
-          long .1 (λ i m h. rw (up-rest t mandatoryAt k i js (inner i m)) (others i m)),
+          long .1 (λ i m h. rw (up-rest launch t mandatoryAt k i js (inner i m)) (others i m)),
         );
       })
       (λ g. let is : n ≡ place = sym (rw (f, g) at more) ∙ e in absurd (omega arith)))
 
   -- what the search finds in the order of a table
   unfoldable pub firstExceeding : ℕ
-  firstExceeding = exceedingAfter (t .count) 0 (reverse (jobsLastFirst t))
+  firstExceeding = exceedingAfter (t .count) 0 (reverse (jobsLastFirst launch t))
 
   -- The search finds nothing exactly where the mandatory ticks up to each task come to no more than the ticks of its window.
-  pub exceeding-never : (t .count ≤ firstExceeding) ↔ ((k : ℕ) → k < t .count → Within t (λ j. jobAt t j .mandatory) k)
+  pub exceeding-never : (t .count ≤ firstExceeding) ↔ ((k : ℕ) → k < t .count → Within launch t (λ j. jobAt launch t j .mandatory) k)
   unfolding firstExceeding jobsLastFirst
   exceeding-never =
       let order = orderLastFirst t in
-      let test = exceeding-test (t .count) (jobsLastFirst t) (jobs-below t) in
-      let law = works-within t mandatoryAt in (
+      let test = exceeding-test (t .count) (jobsLastFirst launch t) (jobs-below launch t) in
+      let law = works-within launch t mandatoryAt in (
         λ l.
-            let fit = not-false (fits (jobsLastFirst t) (keepNone (jobsLastFirst t))) (sym test ∙ le-ltb firstExceeding (t .count) l) in
+            let fit = not-false (fits (jobsLastFirst launch t) (keepNone (jobsLastFirst launch t))) (sym test ∙ le-ltb firstExceeding (t .count) l) in
             law .0 (rw (none-works order) at fit),
         λ h. ltb-false firstExceeding (t .count) (test ∙ ap not (rw (← none-works order) at (law .1 h))),
       )
 
   -- What it finds is the first task that exceeds its window,
-  exceeding-found : firstExceeding < t .count → FirstExceeding t firstExceeding
+  exceeding-found : firstExceeding < t .count → FirstExceeding launch t firstExceeding
   unfolding firstExceeding jobsLastFirst orderLastFirst
   exceeding-found l =
       let order = orderLastFirst t in
       let r = first-in (t .count) order (order-below (kindBefore t) (t .count)) (kind-falls t) firstExceeding refl l in
       record {
         known = l;
-        exceeds = rw (← up-order t mandatoryAt firstExceeding) (r .exceeds);
-        first = λ k m h. rw (← up-order t mandatoryAt k) (order-all t (λ i. kindBefore t i firstExceeding ≡ true → ListWithin order i) (r .first) k m h);
+        exceeds = rw (← up-order launch t mandatoryAt firstExceeding) (r .exceeds);
+        first = λ k m h. rw (← up-order launch t mandatoryAt k) (order-all t (λ i. kindBefore t i firstExceeding ≡ true → ListWithin order i) (r .first) k m h);
       }
 
   -- and there is one at most.
-  exceeding-one : (a b : ℕ) → FirstExceeding t a → FirstExceeding t b → a ≡ b
+  exceeding-one : (a b : ℕ) → FirstExceeding launch t a → FirstExceeding launch t b → a ≡ b
   exceeding-one a b p q =
       elim (ℕ-discrete a b) [
         | yes e ↦ e
@@ -163,7 +163,7 @@ module _ (t : Table) where
       ]
 
   -- The search finds a place exactly where it is that of the first task that exceeds its window.
-  pub exceeding-first : (place : ℕ) → ((firstExceeding ≡ place) × (place < t .count)) ↔ FirstExceeding t place
+  pub exceeding-first : (place : ℕ) → ((firstExceeding ≡ place) × (place < t .count)) ↔ FirstExceeding launch t place
   exceeding-first place = (
     λ h. rw (h .0) at (exceeding-found (rw (h .0) (h .1))),
     λ f.

@@ -17,7 +17,7 @@ use Rattle.base.proofs.TestLaws.{cases}
 use Rattle.base.proofs.PlaceLaws.{places-length, places-at}
 use Rattle.table.specs.declared.Table.{Table}
 use Rattle.table.specs.Kinds.{isNested}
-use Rattle.schedule.specs.Jobs.{jobAt, workOf, counts}
+use Rattle.schedule.specs.Jobs.{jobOf, jobAt, workOf, counts}
 use Rattle.schedule.specs.Ticks.{one}
 use Rattle.schedule.specs.Judging.{discardedCount}
 use Rattle.schedule.proofs.JudgeLaws.{job-position}
@@ -44,8 +44,8 @@ abbrev pub keepsOf : Table → List ℕ → List Bool
 keepsOf t marks = map (keepAt marks) (orderLastFirst t)
 
 -- the marks by position of a keep list
-abbrev pub marksOf : Table → List Bool → List ℕ
-marksOf t keeps = places (markAt (jobsLastFirst t) keeps) (t .count)
+abbrev pub marksOf : ℕ → Table → List Bool → List ℕ
+marksOf launch t keeps = places (markAt (jobsLastFirst launch t) keeps) (t .count)
 
 -- a mark of 0 or 1 is not 1 exactly where it is 0
 low-mark : (mark : ℕ) → mark ≤ 1 → not (eqb mark 1) ≡ eqb mark 0
@@ -67,7 +67,7 @@ map-all : (f g : ℕ → Bool) (js : List ℕ) → map f js ≡ map g js → All
 map-all f g [] e = tt
 map-all f g (j ∷ js) e = ((cc), map-all f g js (cc))
 
-module _ (t : Table) where
+module _ (launch : ℕ) (t : Table) where
   -- Marks by position are settled by their keep list.
   pub marks-one : (a b : List ℕ) → KeepList t a → KeepList t b → keepsOf t a ≡ keepsOf t b → a ≡ b
   marks-one a b p q e =
@@ -76,20 +76,20 @@ module _ (t : Table) where
       (λ k l. let m : k < t .count = omega (arith, p .size) in same-mark (getD a k 0) (getD b k 0) (p .low k m) (q .low k m) (same k m))
 
   -- The marks by position of a keep list are one of 0 or 1 a task,
-  pub marks-list : (keeps : List Bool) → KeepList t (marksOf t keeps)
+  pub marks-list : (keeps : List Bool) → KeepList t (marksOf launch t keeps)
   marks-list keeps =
       record {
-        size = places-length (markAt (jobsLastFirst t) keeps) (t .count);
-        low = λ k l. rw (places-at (markAt (jobsLastFirst t) keeps) (t .count) k 0 l) (omega (arith, mark-low (jobsLastFirst t) keeps k));
+        size = places-length (markAt (jobsLastFirst launch t) keeps) (t .count);
+        low = λ k l. rw (places-at (markAt (jobsLastFirst launch t) keeps) (t .count) k 0 l) (omega (arith, mark-low (jobsLastFirst launch t) keeps k));
       }
 
   -- marks that say what a keep list says have it for their keep list
-  kept-same : (marks js : List ℕ) (keeps : List Bool) → SameMarks (map (jobAt t) js) keeps marks → map (keepAt marks) js ≡ keeps
+  kept-same : (marks js : List ℕ) (keeps : List Bool) → SameMarks (map (jobAt launch t) js) keeps marks → map (keepAt marks) js ≡ keeps
   kept-same marks [] [] s = refl
   kept-same marks [] (keep ∷ keeps) s = absurd s
   kept-same marks (j ∷ js) [] s = absurd s
   kept-same marks (j ∷ js) (keep ∷ keeps) s =
-      let mark : getD marks j 0 ≡ one keep = rw (job-position t j) at (s .0) in
+      let mark : getD marks j 0 ≡ one keep = rw (job-position launch t j) at (s .0) in
       ap₂ (λ (x : Bool) (xs : List Bool). x ∷ xs) (ap (λ (m : ℕ). eqb m 1) mark ∙ back keep) (kept-same marks js keeps (s .1))
     where
       back : (keep : Bool) → eqb (one keep) 1 ≡ keep
@@ -97,11 +97,11 @@ module _ (t : Table) where
       back false = refl
 
   -- and their keep list is that list.
-  pub keeps-back : (keeps : List Bool) → length keeps ≡ t .count → keepsOf t (marksOf t keeps) ≡ keeps
+  pub keeps-back : (keeps : List Bool) → length keeps ≡ t .count → keepsOf t (marksOf launch t keeps) ≡ keeps
   unfolding jobsLastFirst
   keeps-back keeps l =
-      kept-same (marksOf t keeps) (orderLastFirst t) keeps
-      (marks-same (jobsLastFirst t) keeps (t .count) (l ∙ sym (jobs-length t)) (jobs-distinct t) (jobs-below t))
+      kept-same (marksOf launch t keeps) (orderLastFirst t) keeps
+      (marks-same (jobsLastFirst launch t) keeps (t .count) (l ∙ sym (jobs-length launch t)) (jobs-distinct launch t) (jobs-below launch t))
 
   -- there is one mark a task
   keeps-length : (marks : List ℕ) → length (keepsOf t marks) ≡ t .count
@@ -109,67 +109,68 @@ module _ (t : Table) where
   keeps-length marks = length-map (orderLastFirst t) (keepAt marks) ∙ order-length (kindBefore t) (t .count)
 
   -- Every list of one mark of 0 or 1 a task is that of a keep list.
-  pub marks-back : (marks : List ℕ) → KeepList t marks → marksOf t (keepsOf t marks) ≡ marks
+  pub marks-back : (marks : List ℕ) → KeepList t marks → marksOf launch t (keepsOf t marks) ≡ marks
   marks-back marks p =
-      marks-one (marksOf t (keepsOf t marks)) marks (marks-list (keepsOf t marks)) p (keeps-back (keepsOf t marks) (keeps-length marks))
+      marks-one (marksOf launch t (keepsOf t marks)) marks (marks-list (keepsOf t marks)) p (keeps-back (keepsOf t marks) (keeps-length marks))
 
   -- The keep list of marks by position, over some positions: its works, the ticks that it keeps, and the parts that it discards.
   module _ (marks : List ℕ) where
-    works-by : (js : List ℕ) → worksOf (map (jobAt t) js) (map (keepAt marks) js) ≡ map (λ j. workOf (jobAt t j) (getD marks j 0)) js
+    works-by : (js : List ℕ) → worksOf (map (jobAt launch t) js) (map (keepAt marks) js) ≡ map (λ j. workOf (jobAt launch t j) (getD marks j 0)) js
     unfolding worksOf
     works-by [] = refl
-    works-by (j ∷ js) = ap (λ (works : List ℕ). workOf (jobAt t j) (getD marks j 0) ∷ works) (works-by js)
+    works-by (j ∷ js) = ap (λ (works : List ℕ). workOf (jobAt launch t j) (getD marks j 0) ∷ works) (works-by js)
 
-    ticks-by : (js : List ℕ) → keptTicks (map (jobAt t) js) (map (keepAt marks) js) ≡ sumOver (λ k. pick (keepAt marks k) (jobAt t k .optional) 0) js
+    ticks-by : (js : List ℕ) → keptTicks (map (jobAt launch t) js) (map (keepAt marks) js)
+        ≡ sumOver (λ k. pick (keepAt marks k) (jobAt launch t k .optional) 0) js
     unfolding keptTicks sumOver
     ticks-by [] = refl
-    ticks-by (j ∷ js) = ap (λ (x : ℕ). pick (keepAt marks j) (jobAt t j .optional) 0 + x) (ticks-by js)
+    ticks-by (j ∷ js) = ap (λ (x : ℕ). pick (keepAt marks j) (jobAt launch t j .optional) 0 + x) (ticks-by js)
 
     discarded-by : (js : List ℕ) → All (λ k. getD marks k 0 ≤ 1) js
-        → discarded (map (jobAt t) js) (map (keepAt marks) js) ≡ sumOver (λ k. one (and (counts (jobAt t k)) (eqb (getD marks k 0) 0))) js
+        → discarded (map (jobAt launch t) js) (map (keepAt marks) js) ≡ sumOver (λ k. one (and (counts (jobAt launch t k)) (eqb (getD marks k 0) 0))) js
     unfolding sumOver discardedWorth
     discarded-by [] l = refl
     discarded-by (j ∷ js) l =
-        discarded-cons (jobAt t j) (map (jobAt t) js) (keepAt marks j) (map (keepAt marks) js)
+        discarded-cons (jobAt launch t j) (map (jobAt launch t) js) (keepAt marks j) (map (keepAt marks) js)
         ∙ rw (low-mark (getD marks j 0) (l .0), discarded-by js (l .1))
 
     module _ (p : KeepList t marks) where
       -- The keep list fits exactly where the marks do,
       fitting-as : (nested : Bool)
-          → (fitsBy nested (jobsLastFirst t) (keepsOf t marks) ≡ true) ↔ WorksFitBy nested t (λ j. workOf (jobAt t j) (getD marks j 0))
+          → (fitsBy nested (jobsLastFirst launch t) (keepsOf t marks) ≡ true) ↔ WorksFitBy launch nested t (λ j. workOf (jobAt launch t j) (getD marks j 0))
       unfolding fitsBy jobsLastFirst
       fitting-as true =
           let works = works-by (orderLastFirst t) in
-          let law = works-within t (λ j. workOf (jobAt t j) (getD marks j 0)) in
+          let law = works-within launch t (λ j. workOf (jobAt launch t j) (getD marks j 0)) in
           (λ e. law .0 (rw works at e), λ f. rw works (law .1 f))
-      fitting-as false = fits-in-time t (keepAt marks)
+      fitting-as false = fits-in-time launch t (keepAt marks)
 
-      pub keeps-fitting : (fitsBy (isNested t) (jobsLastFirst t) (keepsOf t marks) ≡ true) ↔ Fitting t marks
+      pub keeps-fitting : (fitsBy (isNested t) (jobsLastFirst launch t) (keepsOf t marks) ≡ true) ↔ Fitting launch t marks
       keeps-fitting =
           let law = fitting-as (isNested t) in
           (λ e. record { list = p; works = law .0 e }, λ f. law .1 (f .works))
 
       -- keeps as many ticks,
-      pub keeps-ticks : keptTicks (jobsLastFirst t) (keepsOf t marks) ≡ keptTicksOf t marks
-      unfolding jobsLastFirst keptTicksOf orderLastFirst
-      keeps-ticks = ticks-by (orderLastFirst t) ∙ sum-order (kindBefore t) (λ k. pick (keepAt marks k) (jobAt t k .optional) 0) (t .count)
+      pub keeps-ticks : keptTicks (jobsLastFirst launch t) (keepsOf t marks) ≡ keptTicksOf t marks
+      unfolding jobsLastFirst keptTicksOf orderLastFirst jobAt jobOf
+      keeps-ticks = ticks-by (orderLastFirst t) ∙ sum-order (kindBefore t) (λ k. pick (keepAt marks k) (jobAt launch t k .optional) 0) (t .count)
 
       -- and discards as many optional parts.
-      pub keeps-discarded : discarded (jobsLastFirst t) (keepsOf t marks) ≡ discardedCount t marks
-      unfolding jobsLastFirst discardedCount orderLastFirst
+      pub keeps-discarded : discarded (jobsLastFirst launch t) (keepsOf t marks) ≡ discardedCount t marks
+      unfolding jobsLastFirst discardedCount orderLastFirst jobAt jobOf
       keeps-discarded =
           discarded-by (orderLastFirst t) (all-order t (λ k. getD marks k 0 ≤ 1) (p .low))
-          ∙ count-order (kindBefore t) (λ k. and (counts (jobAt t k)) (eqb (getD marks k 0) 0)) (t .count)
+          ∙ count-order (kindBefore t) (λ k. and (counts (jobAt launch t k)) (eqb (getD marks k 0) 0)) (t .count)
 
   -- A keep list fits exactly where its marks by position do.
   pub fitting-exactly : (keeps : List Bool) → length keeps ≡ t .count
-      → (fitsBy (isNested t) (jobsLastFirst t) keeps ≡ true) ↔ Fitting t (places (markAt (jobsLastFirst t) keeps) (t .count))
+      → (fitsBy (isNested t) (jobsLastFirst launch t) keeps ≡ true) ↔ Fitting launch t (places (markAt (jobsLastFirst launch t) keeps) (t .count))
   fitting-exactly keeps l =
-      let law = keeps-fitting (marksOf t keeps) (marks-list keeps) in
+      let law = keeps-fitting (marksOf launch t keeps) (marks-list keeps) in
       let back = keeps-back keeps l in
       (λ e. law .0 (rw back e), λ f. rw back at (law .1 f))
 
   -- The marks by position of keep lists are all lists of one mark of 0 or 1 a task.
   pub marks-all : (marks : List ℕ) → KeepList t marks
-      → (keeps : List Bool) × (length keeps ≡ t .count) × (marks ≡ places (markAt (jobsLastFirst t) keeps) (t .count))
+      → (keeps : List Bool) × (length keeps ≡ t .count) × (marks ≡ places (markAt (jobsLastFirst launch t) keeps) (t .count))
   marks-all marks p = (keepsOf t marks, keeps-length marks, sym (marks-back marks p))

@@ -1,20 +1,20 @@
 -- Similar tables, by position: where work runs in order, each task as early as it can, and when all of it ends by the deadlines.
-use Prim.Native.Nat.{ℕ, _+_, _≤_, _<_, max}
+use Prim.Native.Nat.{ℕ, _+_, _≤_, _<_}
 use mathlib.Core.Path.{_≡_, refl, sym, ap, _∙_}
 use mathlib.Core.Logic.{_⊎_, _↔_, inl, inr, _≢_}
-use mathlib.Core.Bool.{Bool, true, false}
+use mathlib.Core.Bool.{Bool, true}
 use mathlib.Core.List.{List, [], _∷_, map}
 use native.Mathlib.Omega.{arith}
 use native.Mathlib.Decide.{decLe}
 use lib.Dec.{eqb}
 use borrow.Author.Tests.{eq-eqb, ne-eqb}
 use Rattle.base.specs.Tests.{pick}
-use Rattle.base.specs.Members.{All, Any}
+use Rattle.base.specs.Members.{Any}
 use Rattle.base.proofs.TestLaws.{both-absurd}
 use Rattle.base.proofs.MemberLaws.{all-members}
 use Rattle.table.specs.declared.Table.{Table}
 use Rattle.schedule.specs.Jobs.{jobAt, workWith}
-use Rattle.sequence.specs.InOrder.{startsAt, endsAt, inTime, finish, fitsInOrder}
+use Rattle.sequence.specs.InOrder.{startsAt, endsAt, finish, fitsInOrder}
 use Rattle.sequence.proofs.InOrderLaws.{work-cases, ends-none, ends-some, ends-after, time-none, time-some, time-known, order-head, order-tail, order-cons}
 use Rattle.orders.specs.KindOrder.{kindBefore, orderLastFirst, jobsLastFirst}
 use Rattle.orders.proofs.SortLaws.{Sorted}
@@ -25,18 +25,18 @@ use Rattle.plans.specs.Rules.{HasWork, StartsEarly, EndsInTime}
 abbrev Among : ℕ → List ℕ → Type 0
 Among k js = Any (λ j. j ≡ k) js
 
-module _ (t : Table) (work : ℕ → ℕ) where
+module _ (launch : ℕ) (t : Table) (work : ℕ → ℕ) where
   -- where the work of the tasks at some positions, which stand last first, ends
   unfoldable pub finishAt : List ℕ → ℕ
   finishAt [] = 0
-  finishAt (k ∷ js) = endsAt (jobAt t k) (work k) (finishAt js)
+  finishAt (k ∷ js) = endsAt (jobAt launch t k) (work k) (finishAt js)
 
   -- where the task at a position starts, among them
   unfoldable pub startAt : List ℕ → ℕ → ℕ
   startAt [] k = 0
-  startAt (j ∷ js) k = pick (eqb j k) (startsAt (jobAt t j) (finishAt js)) (startAt js k)
+  startAt (j ∷ js) k = pick (eqb j k) (startsAt (jobAt launch t j) (finishAt js)) (startAt js k)
 
-  start-here : (k : ℕ) (js : List ℕ) → startAt (k ∷ js) k ≡ startsAt (jobAt t k) (finishAt js)
+  start-here : (k : ℕ) (js : List ℕ) → startAt (k ∷ js) k ≡ startsAt (jobAt launch t k) (finishAt js)
   unfolding startAt
   start-here k js = rw (eq-eqb k k refl)
 
@@ -47,15 +47,15 @@ module _ (t : Table) (work : ℕ → ℕ) where
   -- the work of the last of them ends where its task started and ran, and no work ends before that of the others
   finish-here : (k : ℕ) (js : List ℕ) → 0 < work k → finishAt (k ∷ js) ≡ startAt (k ∷ js) k + work k
   unfolding finishAt
-  finish-here k js w = ends-some (jobAt t k) (work k) (finishAt js) w ∙ ap (λ (x : ℕ). x + work k) (sym (start-here k js))
+  finish-here k js w = ends-some (jobAt launch t k) (work k) (finishAt js) w ∙ ap (λ (x : ℕ). x + work k) (sym (start-here k js))
 
   finish-there : (k : ℕ) (js : List ℕ) → finishAt js ≤ finishAt (k ∷ js)
   unfolding finishAt
-  finish-there k js = ends-after (jobAt t k) (work k) (finishAt js)
+  finish-there k js = ends-after (jobAt launch t k) (work k) (finishAt js)
 
   finish-none : (k : ℕ) (js : List ℕ) → work k ≡ 0 → finishAt (k ∷ js) ≡ finishAt js
   unfolding finishAt
-  finish-none k js z = ends-none (jobAt t k) (work k) (finishAt js) z
+  finish-none k js z = ends-none (jobAt launch t k) (work k) (finishAt js) z
 
   -- the work of each ends by then
   ends-by : (js : List ℕ) → Sorted (kindBefore t) js → (k : ℕ) → Among k js → 0 < work k → startAt js k + work k ≤ finishAt js
@@ -88,7 +88,7 @@ module _ (t : Table) (work : ℕ → ℕ) where
   -- Starts as early as can be.
 
   -- no task starts before its release,
-  starts-released : (js : List ℕ) → Sorted (kindBefore t) js → (k : ℕ) → Among k js → jobAt t k .release ≤ startAt js k
+  starts-released : (js : List ℕ) → Sorted (kindBefore t) js → (k : ℕ) → Among k js → jobAt launch t k .release ≤ startAt js k
   starts-released (j ∷ js) s k (inl e) = rw (← e) (rw (start-here j js) (omega arith))
   starts-released (j ∷ js) s k (inr m) = rw (start-there j k js (sorted-other t j k js s m)) (starts-released js (s .1) k m)
 
@@ -108,10 +108,10 @@ module _ (t : Table) (work : ℕ → ℕ) where
 
   -- and each at one of these ticks
   starts-early : (js : List ℕ) → Sorted (kindBefore t) js → (k : ℕ) → Among k js
-      → (startAt js k ≡ jobAt t k .release) ⊎ ((j : ℕ) × Among j js × (0 < work j) × (kindBefore t j k ≡ true) × (startAt js k ≡ startAt js j + work j))
+      → (startAt js k ≡ jobAt launch t k .release) ⊎ ((j : ℕ) × Among j js × (0 < work j) × (kindBefore t j k ≡ true) × (startAt js k ≡ startAt js j + work j))
   starts-early (i ∷ js) s k (inl f) =
       rw (← f)
-      (elim (decLe (finishAt js) (jobAt t i .release)) [
+      (elim (decLe (finishAt js) (jobAt launch t i .release)) [
         | yes l ↦ inl (rw (start-here i js) (omega arith))
         | no l ↦
             let e = end-of js (s .1) (omega arith) in
@@ -127,18 +127,18 @@ module _ (t : Table) (work : ℕ → ℕ) where
   starts-early (i ∷ js) s k (inr m) =
       rw (start-there i k js (sorted-other t i k js s m)) (later (starts-early js (s .1) k m))
     where
-      later : (startAt js k ≡ jobAt t k .release) ⊎ ((j : ℕ) × Among j js × (0 < work j) × (kindBefore t j k ≡ true) × (startAt js k ≡ startAt js j + work j))
-          → (startAt js k ≡ jobAt t k .release)
+      later : (startAt js k ≡ jobAt launch t k .release) ⊎ ((j : ℕ) × Among j js × (0 < work j) × (kindBefore t j k ≡ true) × (startAt js k ≡ startAt js j + work j))
+          → (startAt js k ≡ jobAt launch t k .release)
           ⊎ ((j : ℕ) × Among j (i ∷ js) × (0 < work j) × (kindBefore t j k ≡ true) × (startAt js k ≡ startAt (i ∷ js) j + work j))
       later (inl e) = inl e
       later (inr e) = inr (e .0, inr (e .1), e .2, e .3, rw (start-there i (e .0) js (sorted-other t i (e .0) js s (e .1))) (e .4))
 
   -- Such starts are the only ones. `start` is as early as can be among the tasks of a list that has, with each of its tasks, all that stand before it and have work.
   pub record EarlyIn (js : List ℕ) (start : ℕ → ℕ) : Type 0 where
-    pub released : (k : ℕ) → Among k js → 0 < work k → jobAt t k .release ≤ start k
+    pub released : (k : ℕ) → Among k js → 0 < work k → jobAt launch t k .release ≤ start k
     pub after : (j k : ℕ) → Among j js → Among k js → 0 < work j → 0 < work k → kindBefore t j k ≡ true → start j + work j ≤ start k
     pub early : (k : ℕ) → Among k js → 0 < work k
-        → (start k ≡ jobAt t k .release) ⊎ ((j : ℕ) × Among j js × (0 < work j) × (kindBefore t j k ≡ true) × (start k ≡ start j + work j))
+        → (start k ≡ jobAt launch t k .release) ⊎ ((j : ℕ) × Among j js × (0 < work j) × (kindBefore t j k ≡ true) × (start k ≡ start j + work j))
 
   -- the list without its last task
   early-tail : (i : ℕ) (js : List ℕ) (start : ℕ → ℕ) → Sorted (kindBefore t) (i ∷ js) → EarlyIn (i ∷ js) start → EarlyIn js start
@@ -150,8 +150,8 @@ module _ (t : Table) (work : ℕ → ℕ) where
       }
     where
       inner : (k : ℕ) → Among k js
-          → (start k ≡ jobAt t k .release) ⊎ ((j : ℕ) × Among j (i ∷ js) × (0 < work j) × (kindBefore t j k ≡ true) × (start k ≡ start j + work j))
-          → (start k ≡ jobAt t k .release) ⊎ ((j : ℕ) × Among j js × (0 < work j) × (kindBefore t j k ≡ true) × (start k ≡ start j + work j))
+          → (start k ≡ jobAt launch t k .release) ⊎ ((j : ℕ) × Among j (i ∷ js) × (0 < work j) × (kindBefore t j k ≡ true) × (start k ≡ start j + work j))
+          → (start k ≡ jobAt launch t k .release) ⊎ ((j : ℕ) × Among j js × (0 < work j) × (kindBefore t j k ≡ true) × (start k ≡ start j + work j))
       inner k m (inl e) = inl e
       inner k m (inr (j, inr n, v, b, q)) = inr (j, n, v, b, q)
       inner k m (inr (j, inl n, v, b, q)) =
@@ -161,10 +161,10 @@ module _ (t : Table) (work : ℕ → ℕ) where
 
   -- where the last of them starts, from where the others do
   start-last : (i : ℕ) (js : List ℕ) (start : ℕ → ℕ) → Sorted (kindBefore t) (i ∷ js) → EarlyIn (i ∷ js) start
-      → ((j : ℕ) → Among j js → 0 < work j → start j ≡ startAt js j) → 0 < work i → start i ≡ startsAt (jobAt t i) (finishAt js)
+      → ((j : ℕ) → Among j js → 0 < work j → start j ≡ startAt js j) → 0 < work i → start i ≡ startsAt (jobAt launch t i) (finishAt js)
   start-last i js start s e same v = settled (e .early i (inl refl) v)
     where
-      low : jobAt t i .release ≤ start i
+      low : jobAt launch t i .release ≤ start i
       low = e .released i (inl refl) v
 
       by : finishAt js ≤ start i
@@ -177,8 +177,8 @@ module _ (t : Table) (work : ℕ → ℕ) where
                 omega (arith, d .ends, same (d .task) (d .among) (d .works), e .after (d .task) i (inr (d .among)) (inl refl) (d .works) v b)
           ]
 
-      settled : (start i ≡ jobAt t i .release) ⊎ ((j : ℕ) × Among j (i ∷ js) × (0 < work j) × (kindBefore t j i ≡ true) × (start i ≡ start j + work j))
-          → start i ≡ startsAt (jobAt t i) (finishAt js)
+      settled : (start i ≡ jobAt launch t i .release) ⊎ ((j : ℕ) × Among j (i ∷ js) × (0 < work j) × (kindBefore t j i ≡ true) × (start i ≡ start j + work j))
+          → start i ≡ startsAt (jobAt launch t i) (finishAt js)
       settled (inl q) = omega (arith, by)
       settled (inr (j, inl n, u, b, q)) = let c : kindBefore t i i ≡ true = rw (← n) at b in both-absurd (kindBefore t i i) c (kind-once t i i c)
       settled (inr (j, inr n, u, b, q)) = omega (arith, by, low, same j n u, ends-by js (s .1) j n u)
@@ -194,41 +194,41 @@ module _ (t : Table) (work : ℕ → ℕ) where
   -- In time.
 
   -- the work of the tasks is in time under a keep list exactly where each that has work ends by its deadline
-  module _ (keep : ℕ → Bool) (works : (k : ℕ) → work k ≡ workWith (jobAt t k) (keep k)) where
-    finish-is : (js : List ℕ) → finish (map (jobAt t) js) (map keep js) ≡ finishAt js
+  module _ (keep : ℕ → Bool) (works : (k : ℕ) → work k ≡ workWith (jobAt launch t k) (keep k)) where
+    finish-is : (js : List ℕ) → finish (map (jobAt launch t) js) (map keep js) ≡ finishAt js
     unfolding finish finishAt
     finish-is [] = refl
     finish-is (k ∷ js) = rw (← works k, finish-is js) refl
 
-    fits-ends : (js : List ℕ) → Sorted (kindBefore t) js → fitsInOrder (map (jobAt t) js) (map keep js) ≡ true
-        → (k : ℕ) → Among k js → 0 < work k → startAt js k + work k ≤ jobAt t k .deadline
+    fits-ends : (js : List ℕ) → Sorted (kindBefore t) js → fitsInOrder (map (jobAt launch t) js) (map keep js) ≡ true
+        → (k : ℕ) → Among k js → 0 < work k → startAt js k + work k ≤ jobAt launch t k .deadline
     fits-ends (i ∷ js) s e k (inl f) w =
         let v : 0 < work i = rw (← f) at w in
-        let head = rw (← works i, finish-is js) at (order-head (jobAt t i) (map (jobAt t) js) (keep i) (map keep js) e) in
-        rw (← f) (rw (start-here i js) (time-known (jobAt t i) (work i) (finishAt js) v head))
+        let head = rw (← works i, finish-is js) at (order-head (jobAt launch t i) (map (jobAt launch t) js) (keep i) (map keep js) e) in
+        rw (← f) (rw (start-here i js) (time-known (jobAt launch t i) (work i) (finishAt js) v head))
     fits-ends (i ∷ js) s e k (inr m) w =
-        rw (start-there i k js (sorted-other t i k js s m)) (fits-ends js (s .1) (order-tail (jobAt t i) (map (jobAt t) js) (keep i) (map keep js) e) k m w)
+        rw (start-there i k js (sorted-other t i k js s m)) (fits-ends js (s .1) (order-tail (jobAt launch t i) (map (jobAt launch t) js) (keep i) (map keep js) e) k m w)
 
-    ends-fit : (js : List ℕ) → Sorted (kindBefore t) js → ((k : ℕ) → Among k js → 0 < work k → startAt js k + work k ≤ jobAt t k .deadline)
-        → fitsInOrder (map (jobAt t) js) (map keep js) ≡ true
+    ends-fit : (js : List ℕ) → Sorted (kindBefore t) js → ((k : ℕ) → Among k js → 0 < work k → startAt js k + work k ≤ jobAt launch t k .deadline)
+        → fitsInOrder (map (jobAt launch t) js) (map keep js) ≡ true
     unfolding fitsInOrder
     ends-fit [] s h = refl
     ends-fit (i ∷ js) s h =
-        order-cons (jobAt t i) (map (jobAt t) js) (keep i) (map keep js)
+        order-cons (jobAt launch t i) (map (jobAt launch t) js) (keep i) (map keep js)
         (rw (← works i, finish-is js)
         (work-cases (work i)
-        (λ z. time-none (jobAt t i) (work i) (finishAt js) z)
-        (λ w. time-some (jobAt t i) (work i) (finishAt js) w (rw (start-here i js) at (h i (inl refl) w)))))
+        (λ z. time-none (jobAt launch t i) (work i) (finishAt js) z)
+        (λ w. time-some (jobAt launch t i) (work i) (finishAt js) w (rw (start-here i js) at (h i (inl refl) w)))))
         (ends-fit js (s .1) (λ k m w. rw (start-there i k js (sorted-other t i k js s m)) at (h k (inr m) w)))
 
 -- A keep list of a table's jobs fits in order exactly where the works by position are in time.
-module _ (t : Table) (keep : ℕ → Bool) where
+module _ (launch : ℕ) (t : Table) (keep : ℕ → Bool) where
   -- the work of the task at a position
   abbrev workAt : ℕ → ℕ
-  workAt k = workWith (jobAt t k) (keep k)
+  workAt k = workWith (jobAt launch t k) (keep k)
 
   -- starts by position among the tasks of the order, and among those of the table
-  early-in : (start : ℕ → ℕ) → StartsEarly t workAt start → EarlyIn t workAt (orderLastFirst t) start
+  early-in : (start : ℕ → ℕ) → StartsEarly launch t workAt start → EarlyIn launch t workAt (orderLastFirst t) start
   early-in start s =
       record {
         released = λ k m w. s .released k (order-among t k m, w);
@@ -237,45 +237,45 @@ module _ (t : Table) (keep : ℕ → Bool) where
       }
     where
       inner : (k : ℕ)
-          → (start k ≡ jobAt t k .release) ⊎ ((j : ℕ) × HasWork t workAt j × (kindBefore t j k ≡ true) × (start k ≡ start j + workAt j))
-          → (start k ≡ jobAt t k .release) ⊎ ((j : ℕ) × Among j (orderLastFirst t) × (0 < workAt j) × (kindBefore t j k ≡ true) × (start k ≡ start j + workAt j))
+          → (start k ≡ jobAt launch t k .release) ⊎ ((j : ℕ) × HasWork t workAt j × (kindBefore t j k ≡ true) × (start k ≡ start j + workAt j))
+          → (start k ≡ jobAt launch t k .release) ⊎ ((j : ℕ) × Among j (orderLastFirst t) × (0 < workAt j) × (kindBefore t j k ≡ true) × (start k ≡ start j + workAt j))
       inner k (inl e) = inl e
       inner k (inr (j, h, b, q)) = inr (j, among-order t j (h .0), h .1, b, q)
 
-  starts-are : StartsEarly t workAt (startAt t workAt (orderLastFirst t))
+  starts-are : StartsEarly launch t workAt (startAt launch t workAt (orderLastFirst t))
   starts-are =
       let order = orderLastFirst t in
       record {
-        released = λ k h. starts-released t workAt order (kind-falls t) k (among-order t k (h .0));
-        after = λ j k g h b. starts-after t workAt order (kind-falls t) j k (among-order t j (g .0)) (among-order t k (h .0)) (g .1) b;
-        early = λ k h. inner k (starts-early t workAt order (kind-falls t) k (among-order t k (h .0)));
+        released = λ k h. starts-released launch t workAt order (kind-falls t) k (among-order t k (h .0));
+        after = λ j k g h b. starts-after launch t workAt order (kind-falls t) j k (among-order t j (g .0)) (among-order t k (h .0)) (g .1) b;
+        early = λ k h. inner k (starts-early launch t workAt order (kind-falls t) k (among-order t k (h .0)));
       }
     where
       inner : (k : ℕ)
-          → (startAt t workAt (orderLastFirst t) k ≡ jobAt t k .release)
+          → (startAt launch t workAt (orderLastFirst t) k ≡ jobAt launch t k .release)
           ⊎ ((j : ℕ) × Among j (orderLastFirst t) × (0 < workAt j) × (kindBefore t j k ≡ true)
-          × (startAt t workAt (orderLastFirst t) k ≡ startAt t workAt (orderLastFirst t) j + workAt j))
-          → (startAt t workAt (orderLastFirst t) k ≡ jobAt t k .release)
-          ⊎ ((j : ℕ) × HasWork t workAt j × (kindBefore t j k ≡ true) × (startAt t workAt (orderLastFirst t) k ≡ startAt t workAt (orderLastFirst t) j + workAt j))
+          × (startAt launch t workAt (orderLastFirst t) k ≡ startAt launch t workAt (orderLastFirst t) j + workAt j))
+          → (startAt launch t workAt (orderLastFirst t) k ≡ jobAt launch t k .release)
+          ⊎ ((j : ℕ) × HasWork t workAt j × (kindBefore t j k ≡ true) × (startAt launch t workAt (orderLastFirst t) k ≡ startAt launch t workAt (orderLastFirst t) j + workAt j))
       inner k (inl e) = inl e
       inner k (inr (j, m, v, b, q)) = inr (j, (order-among t j m, v), b, q)
 
-  pub fits-in-time : (fitsInOrder (jobsLastFirst t) (map keep (orderLastFirst t)) ≡ true) ↔ EndsInTime t workAt
+  pub fits-in-time : (fitsInOrder (jobsLastFirst launch t) (map keep (orderLastFirst t)) ≡ true) ↔ EndsInTime launch t workAt
   unfolding jobsLastFirst
   fits-in-time = (
     λ e.
         record {
-          start = startAt t workAt (orderLastFirst t);
+          start = startAt launch t workAt (orderLastFirst t);
           starts = starts-are;
-          ends = λ k h. fits-ends t workAt keep (λ j. refl) (orderLastFirst t) (kind-falls t) e k (among-order t k (h .0)) (h .1);
+          ends = λ k h. fits-ends launch t workAt keep (λ j. refl) (orderLastFirst t) (kind-falls t) e k (among-order t k (h .0)) (h .1);
         },
     λ i.
-        ends-fit t workAt keep (λ j. refl) (orderLastFirst t) (kind-falls t)
+        ends-fit launch t workAt keep (λ j. refl) (orderLastFirst t) (kind-falls t)
         (λ k m w.
-        rw (← starts-only t workAt (orderLastFirst t) (i .start) (kind-falls t) (early-in (i .start) (i .starts)) k m w)
+        rw (← starts-only launch t workAt (orderLastFirst t) (i .start) (kind-falls t) (early-in (i .start) (i .starts)) k m w)
         (i .ends k (order-among t k m, w))),
   )
 
   -- Starts as early as can be are settled where there is work.
-  pub starts-settled : (start : ℕ → ℕ) → StartsEarly t workAt start → (k : ℕ) → HasWork t workAt k → start k ≡ startAt t workAt (orderLastFirst t) k
-  starts-settled start s k h = starts-only t workAt (orderLastFirst t) start (kind-falls t) (early-in start s) k (among-order t k (h .0)) (h .1)
+  pub starts-settled : (start : ℕ → ℕ) → StartsEarly launch t workAt start → (k : ℕ) → HasWork t workAt k → start k ≡ startAt launch t workAt (orderLastFirst t) k
+  starts-settled start s k h = starts-only launch t workAt (orderLastFirst t) start (kind-falls t) (early-in start s) k (among-order t k (h .0)) (h .1)

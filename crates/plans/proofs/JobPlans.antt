@@ -1,43 +1,36 @@
 -- The plan of jobs of either kind: what is known of fitting lists, of the chosen list and of its runs, in one statement for both.
 use Prim.Native.Nat.{ℕ, _-_, _*_, _≤_, _<_}
-use mathlib.Core.Path.{_≡_, refl, sym, ap, _∙_}
+use mathlib.Core.Path.{_≡_, refl}
 use mathlib.Core.Logic.{_⊎_, _↔_}
-use mathlib.Core.List.{List, [], _∷_}
+use mathlib.Core.List.{List}
 use mathlib.Core.Bool.{Bool, true, false, not}
 use native.Mathlib.Omega.{arith}
 use lib.Dec.{ltb}
 use lib.ListN.{length}
-use Rattle.base.specs.Tests.{pick}
 use Rattle.base.proofs.TestLaws.{both-absurd}
 use Rattle.base.specs.Members.{All, Distinct}
 use Rattle.schedule.specs.declared.Job.{Job}
-use Rattle.schedule.specs.declared.Run.{Run}
 use Rattle.schedule.specs.Ticks.{Owner}
 use Rattle.schedule.specs.Runnings.{Running, discards}
 use Rattle.schedule.specs.Runs.{Together}
 use Rattle.choice.specs.Choice.{keepNone, keptTicks, KeepsFirst, countOne, discarded, ZeroKept}
-use Rattle.choice.proofs.FitLaws.{fits-length, none-fits, fits-tail}
+use Rattle.choice.proofs.FitLaws.{fits-length, none-fits}
 use Rattle.choice.proofs.ChoiceLaws.{chosen-meets, meets-chosen, chosen-zero-kept}
 use Rattle.placement.specs.Chains.{positions}
-use Rattle.placement.specs.Placing.{placed, stretches, outermostDeadline}
+use Rattle.placement.specs.Placing.{outermostDeadline}
 use Rattle.placement.proofs.Best as nests
 use Rattle.placement.proofs.RunOrder.{Listed, placed-listed, placed-few}
 use Rattle.placement.proofs.FilledPlaces.{chain-deadlines}
 use Rattle.placement.proofs.PlanLaws.{SameMarks, placed-together}
-use Rattle.sequence.specs.InOrder.{finish, placedInOrder}
-use Rattle.sequence.proofs.InOrderLaws.{order-length, order-tail, none-earliest}
+use Rattle.sequence.proofs.InOrderLaws.{order-length, none-earliest}
 use Rattle.sequence.proofs.OrderChoiceLaws.{order-meets, meets-order, order-zero-kept}
 use Rattle.sequence.proofs.OrderSufficiency.{order-running, order-listed}
 use Rattle.sequence.proofs.RunListLaws.{order-few}
 use Rattle.sequence.proofs.OrderBest as orders
 use Rattle.sequence.proofs.LateLaws.{late-test}
-use Rattle.plans.specs.Planning.{unmetBy, fitsBy, chosenAs, runsBy}
+use Rattle.plans.specs.Planning.{unmetBy, fitsBy, chosenAs, placedBy, runsBy}
 use Rattle.plans.specs.KindJobs.{JobsOfKind}
 use Rattle.plans.proofs.ExceedLaws.{exceeding-test}
-
--- who has each tick under a keep list
-unfoldable pub placedBy : Bool → List Job → List Bool → Owner
-placedBy nested jobs keeps = pick nested (placed jobs keeps) (placedInOrder jobs keeps)
 
 -- no two of the jobs have one position
 pub distinct-by : (nested : Bool) (jobs : List Job) → JobsOfKind nested jobs → Distinct (positions jobs)

@@ -12,4 +12,7 @@ pub mod UnmetFirst
 pub mod EarlyTicks
 pub mod PlacingRules
 pub mod ReplyLaws
+pub mod ShiftLaws
+pub mod LaunchLaws
+pub mod CallLaws
 pub mod ArrayLaws

@@ -56,14 +56,14 @@ kept-one false true = refl
 kept-one false false = refl
 
 -- The kept count of a keep list is the sum over its positions by the marks.
-pub kept-marks : (t : Table) (marks js : List ℕ) (keeps : List Bool) → SameMarks (map (jobAt t) js) keeps marks
-    → kept (map (jobAt t) js) keeps ≡ sumOver (λ k. one (and (counts (jobAt t k)) (eqb (getD marks k 0) 1))) js
+pub kept-marks : (launch : ℕ) (t : Table) (marks js : List ℕ) (keeps : List Bool) → SameMarks (map (jobAt launch t) js) keeps marks
+    → kept (map (jobAt launch t) js) keeps ≡ sumOver (λ k. one (and (counts (jobAt launch t k)) (eqb (getD marks k 0) 1))) js
 unfolding keptWorth sumOver
-kept-marks t marks [] keeps s = refl
-kept-marks t marks (j ∷ js) [] s = absurd s
-kept-marks t marks (j ∷ js) (keep ∷ keeps) s =
-    let e : getD marks j 0 ≡ one keep = ap (λ (k : ℕ). getD marks k 0) (sym (job-position t j)) ∙ s .0 in
-    rw e (omega (arith, kept-one (counts (jobAt t j)) keep, kept-marks t marks js keeps (s .1)))
+kept-marks launch t marks [] keeps s = refl
+kept-marks launch t marks (j ∷ js) [] s = absurd s
+kept-marks launch t marks (j ∷ js) (keep ∷ keeps) s =
+    let e : getD marks j 0 ≡ one keep = ap (λ (k : ℕ). getD marks k 0) (sym (job-position launch t j)) ∙ s .0 in
+    rw e (omega (arith, kept-one (counts (jobAt launch t j)) keep, kept-marks launch t marks js keeps (s .1)))
 
 -- Marks that were put into a lent list one job after another, as numbers: at the end every position holds its mark.
 pub marked-end : (at : ℕ → Job) (keep : ℕ → Bool) (n : ℕ) (lent : List ℕ) (i : ℕ) (marks : List ℕ) → n ≤ i → n ≤ length lent

@@ -37,31 +37,31 @@ use Rattle.orders.specs.KindOrder.{kindBefore, orderLastFirst, jobsLastFirst}
 use Rattle.orders.proofs.SortLaws.{Sorted}
 use Rattle.orders.proofs.OrderLaws.{jobs-positions}
 use Rattle.orders.proofs.BeforeLaws.{kind-once, kind-falls, among-order}
-use Rattle.plans.specs.Planning.{fitsBy, runsBy, keepList, planRuns, mandatoryFit}
+use Rattle.plans.specs.Planning.{fitsBy, placedBy, runsBy, planRunsBy, keepList, planRuns, mandatoryFit}
 use Rattle.plans.specs.KindJobs.{JobsOfKind}
 use Rattle.plans.specs.Rules.{PlacedAs, LongestStretch, LongestRuns}
-use Rattle.plans.proofs.JobPlans.{placedBy}
 use Rattle.plans.proofs.TableJobs.{kind-jobs}
 use Rattle.plans.proofs.PlanLaws.{keeps-fit, plan-listed, plan-owner, plan-few}
 use Rattle.plans.proofs.EarlyTicks.{held-ordered, held-early}
 
 -- what holds of jobs last first, by position: the jobs after that of task i are those before it in the order
-latest-at : (t : Table) (owner : Owner) (i : ℕ) (js : List ℕ) → Sorted (kindBefore t) js → Any (λ j. j ≡ i) js → Latest (map (jobAt t) js) owner
-    → (u v : ℕ) → jobAt t i .release ≤ u → u < jobAt t i .deadline → owner u ≢ some i
+latest-at : (launch : ℕ) (t : Table) (owner : Owner) (i : ℕ) (js : List ℕ) → Sorted (kindBefore t) js → Any (λ j. j ≡ i) js
+    → Latest (map (jobAt launch t) js) owner
+    → (u v : ℕ) → jobAt launch t i .release ≤ u → u < jobAt launch t i .deadline → owner u ≢ some i
     → ((j : ℕ) → owner u ≡ some j → kindBefore t i j ≡ true) → owner v ≡ some i → u < v
-latest-at t owner i (k ∷ js) s (inr m) h = latest-at t owner i js (s .1) m (h .1)
-latest-at t owner i (k ∷ js) s (inl e) h =
+latest-at launch t owner i (k ∷ js) s (inr m) h = latest-at launch t owner i js (s .1) m (h .1)
+latest-at launch t owner i (k ∷ js) s (inl e) h =
     rw (← e)
     (λ u v a b left outer has.
-    h .0 u v a b (rw (job-position t k) left)
+    h .0 u v a b (rw (job-position launch t k) left)
     (λ j q.
-    rw (jobs-positions t js)
+    rw (jobs-positions launch t js)
     (all-map (λ n. kindBefore t n k ≡ true) (λ n. j ≢ n) js
     (λ n before same.
     let other : kindBefore t k n ≡ true = rw same at (outer j q) in
     both-absurd (kindBefore t n k) before (kind-once t k n other))
     (s .0)))
-    (rw (job-position t k) has))
+    (rw (job-position launch t k) has))
 
 -- The stretches of an owner. Runs, latest first, that say who has each tick below a top, of which no two make one, and of which none goes on at the top, are longest
 -- stretches.
@@ -148,36 +148,37 @@ longest-by false jobs keeps s e =
     stretches-longest (placedInOrder jobs keeps) (finish jobs keeps) (free-after jobs keeps (finish jobs keeps) (omega arith))
 
 -- How the jobs of a table are placed, by position.
-placed-as : (nested : Bool) (t : Table) (keeps : List Bool) → JobsOfKind nested (jobsLastFirst t) → fitsBy nested (jobsLastFirst t) keeps ≡ true
-    → PlacedAs nested t (placedBy nested (jobsLastFirst t) keeps)
+placed-as : (launch : ℕ) (nested : Bool) (t : Table) (keeps : List Bool) → JobsOfKind nested (jobsLastFirst launch t)
+    → fitsBy nested (jobsLastFirst launch t) keeps ≡ true
+    → PlacedAs launch nested t (placedBy nested (jobsLastFirst launch t) keeps)
 unfolding fitsBy placedBy jobsLastFirst
-placed-as true t keeps c e =
+placed-as launch true t keeps c e =
     λ i u v l.
-    latest-at t (placed (jobsLastFirst t) keeps) i (orderLastFirst t) (kind-falls t) (among-order t i l)
-    (works-latest (jobsLastFirst t) (worksOf (jobsLastFirst t) keeps) c e) u v
-placed-as false t keeps s e =
+    latest-at launch t (placed (jobsLastFirst launch t) keeps) i (orderLastFirst t) (kind-falls t) (among-order t i l)
+    (works-latest (jobsLastFirst launch t) (worksOf (jobsLastFirst launch t) keeps) c e) u v
+placed-as launch false t keeps s e =
     record {
-      ordered = λ i j u v b. held-ordered t (orderLastFirst t) keeps (kind-falls t) i j u v b;
-      early = λ i u v r l has left. held-early t (orderLastFirst t) keeps (kind-falls t) i u v r l has left;
+      ordered = λ i j u v b. held-ordered launch t (orderLastFirst t) keeps (kind-falls t) i j u v b;
+      early = λ i u v r l has left. held-early launch t (orderLastFirst t) keeps (kind-falls t) i u v r l has left;
     }
 
 -- The plan of an accepted table whose mandatory parts fit.
-module _ (t : Table) (legal : Legal t) (none : mandatoryFit t ≡ true) where
+module _ (launch : ℕ) (t : Table) (legal : Legal t) (none : mandatoryFit launch t ≡ true) where
   -- Its work is placed as the rules of its kind say.
-  pub plan-placed : PlacedAs (isNested t) t (ownerOf (planRuns t))
-  plan-placed = rw (plan-owner t legal none) (placed-as (isNested t) t (keepList t) (kind-jobs t legal) (keeps-fit t legal none))
+  pub plan-placed : PlacedAs launch (isNested t) t (ownerOf (planRuns launch t))
+  plan-placed = rw (plan-owner launch t legal none) (placed-as launch (isNested t) t (keepList launch t) (kind-jobs launch t legal) (keeps-fit launch t legal none))
 
   -- its runs are longest stretches
-  plan-stretches : All (LongestStretch (placedBy (isNested t) (jobsLastFirst t) (keepList t))) (planRuns t)
-  unfolding planRuns
-  plan-stretches = longest-by (isNested t) (jobsLastFirst t) (keepList t) (kind-jobs t legal) (keeps-fit t legal none)
+  plan-stretches : All (LongestStretch (placedBy (isNested t) (jobsLastFirst launch t) (keepList launch t))) (planRuns launch t)
+  unfolding planRuns planRunsBy keepList
+  plan-stretches = longest-by (isNested t) (jobsLastFirst launch t) (keepList launch t) (kind-jobs launch t legal) (keeps-fit launch t legal none)
 
   -- Its runs are longest stretches, by start, and never more than 2n − 1.
-  pub plan-longest : LongestRuns t (planRuns t)
+  pub plan-longest : LongestRuns t (planRuns launch t)
   unfolding inOrder
   plan-longest =
       record {
-        stretches = rw (plan-owner t legal none) plan-stretches;
-        by-start = starts-rise 0 (planRuns t) (plan-listed t legal none .nonempty) (plan-listed t legal none .ordered);
-        few = omega (arith, plan-few t legal none, legal-count legal);
+        stretches = rw (plan-owner launch t legal none) plan-stretches;
+        by-start = starts-rise 0 (planRuns launch t) (plan-listed launch t legal none .nonempty) (plan-listed launch t legal none .ordered);
+        few = omega (arith, plan-few launch t legal none, legal-count legal);
       }

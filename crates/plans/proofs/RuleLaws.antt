@@ -12,8 +12,9 @@ use Rattle.base.specs.Members.{All, Any}
 use Rattle.base.proofs.TestLaws.{cases, both-absurd}
 use Rattle.base.proofs.MemberLaws.{all-map, all-members}
 use Rattle.table.specs.declared.Table.{Table}
+use Rattle.table.specs.Tables.{taskAt}
 use Rattle.table.specs.Kinds.{isNested}
-use Rattle.schedule.specs.Jobs.{jobAt}
+use Rattle.schedule.specs.Jobs.{jobOf, jobAt}
 use Rattle.schedule.specs.Judging.{discardedCount}
 use Rattle.choice.specs.Choice.{keptTicks, KeepsFirst, discarded, ZeroKept}
 use Rattle.choice.proofs.TieLaws.{first-cons}
@@ -21,7 +22,7 @@ use Rattle.orders.specs.KindOrder.{kindBefore, orderLastFirst, jobsLastFirst}
 use Rattle.orders.proofs.SortLaws.{Sorted}
 use Rattle.orders.proofs.OrderLaws.{jobs-length}
 use Rattle.orders.proofs.BeforeLaws.{kind-once, kind-falls, all-order, order-all, among-order, order-among}
-use Rattle.plans.specs.Planning.{fitsBy, chosenAs, keepList, planMarks, mandatoryFit}
+use Rattle.plans.specs.Planning.{fitsBy, chosenAs, marksBy, keepList, planMarks, mandatoryFit}
 use Rattle.plans.specs.Rules.{KeepList, Fitting, keptTicksOf, ByRules}
 use Rattle.plans.proofs.JobPlans.{length-by, none-by, zero-by, MeetsBy, chosen-meets-by, meets-chosen-by}
 use Rattle.plans.proofs.FittingLaws.{keepAt, keepsOf, marksOf, same-mark, marks-one, marks-list, keeps-back}
@@ -93,38 +94,38 @@ module _ (t : Table) (f g : ℕ → Bool) where
       (λ q. both-absurd (f j) (differing (λ e. both-absurd (g j) q (sym e ∙ p))) p)
       (λ q. agreeing (p ∙ sym q)))
 
-module _ (t : Table) where
+module _ (launch : ℕ) (t : Table) where
   -- a keep list that keeps each part of no length, by its marks
-  zero-marks : (marks js : List ℕ) → ZeroKept (map (jobAt t) js) (map (keepAt marks) js)
-      → All (λ k. jobAt t k .optional ≡ 0 → getD marks k 0 ≡ 1) js
+  zero-marks : (marks js : List ℕ) → ZeroKept (map (jobAt launch t) js) (map (keepAt marks) js)
+      → All (λ k. jobAt launch t k .optional ≡ 0 → getD marks k 0 ≡ 1) js
   zero-marks marks [] z = tt
   zero-marks marks (j ∷ js) z = (λ e. eqb-true (getD marks j 0) 1 (z .0 e), zero-marks marks js (z .1))
 
-  zero-by-position : (marks : List ℕ) → ZeroKept (jobsLastFirst t) (keepsOf t marks)
-      → (k : ℕ) → k < t .count → jobAt t k .optional ≡ 0 → getD marks k 0 ≡ 1
-  unfolding jobsLastFirst
-  zero-by-position marks z = order-all t (λ k. jobAt t k .optional ≡ 0 → getD marks k 0 ≡ 1) (zero-marks marks (orderLastFirst t) z)
+  zero-by-position : (marks : List ℕ) → ZeroKept (jobsLastFirst launch t) (keepsOf t marks)
+      → (k : ℕ) → k < t .count → taskAt t k .optional ≡ 0 → getD marks k 0 ≡ 1
+  unfolding jobsLastFirst jobAt jobOf
+  zero-by-position marks z = order-all t (λ k. taskAt t k .optional ≡ 0 → getD marks k 0 ≡ 1) (zero-marks marks (orderLastFirst t) z)
 
   -- A list whose keep list meets the rules follows them by position,
-  meets-by-rules : (marks : List ℕ) → KeepList t marks → MeetsBy (isNested t) (jobsLastFirst t) (keepsOf t marks)
-      → ZeroKept (jobsLastFirst t) (keepsOf t marks) → ByRules t marks
+  meets-by-rules : (marks : List ℕ) → KeepList t marks → MeetsBy (isNested t) (jobsLastFirst launch t) (keepsOf t marks)
+      → ZeroKept (jobsLastFirst launch t) (keepsOf t marks) → ByRules launch t marks
   meets-by-rules marks p m z =
-      let mine : discarded (jobsLastFirst t) (keepsOf t marks) ≡ discardedCount t marks = keeps-discarded t marks p in
-      let ticks : keptTicks (jobsLastFirst t) (keepsOf t marks) ≡ keptTicksOf t marks = keeps-ticks t marks p in
+      let mine : discarded (jobsLastFirst launch t) (keepsOf t marks) ≡ discardedCount t marks = keeps-discarded launch t marks p in
+      let ticks : keptTicks (jobsLastFirst launch t) (keepsOf t marks) ≡ keptTicksOf t marks = keeps-ticks launch t marks p in
       record {
-        fit = keeps-fitting t marks p .0 (m .fit);
+        fit = keeps-fitting launch t marks p .0 (m .fit);
         fewest = λ other f.
-            omega (arith, keeps-discarded t other (f .list), m .leastDiscarded (keepsOf t other) (keeps-fitting t other (f .list) .1 f));
+            omega (arith, keeps-discarded launch t other (f .list), m .leastDiscarded (keepsOf t other) (keeps-fitting launch t other (f .list) .1 f));
         least = λ n other f d.
             omega (
               arith,
-              keeps-ticks t other (f .list),
-              m .leastTicks n (keepsOf t other) (keeps-fitting t other (f .list) .1 f) (keeps-discarded t other (f .list) ∙ (d ∙ sym mine)),
+              keeps-ticks launch t other (f .list),
+              m .leastTicks n (keepsOf t other) (keeps-fitting launch t other (f .list) .1 f) (keeps-discarded launch t other (f .list) ∙ (d ∙ sym mine)),
             );
         last = λ other f d e k o.
             let first =
-            m .last (keepsOf t other) (keeps-fitting t other (f .list) .1 f) (keeps-discarded t other (f .list) ∙ (d ∙ sym mine))
-            (λ n. keeps-ticks t other (f .list) ∙ (e n ∙ sym ticks)) in
+            m .last (keepsOf t other) (keeps-fitting launch t other (f .list) .1 f) (keeps-discarded launch t other (f .list) ∙ (d ∙ sym mine))
+            (λ n. keeps-ticks launch t other (f .list) ∙ (e n ∙ sym ticks)) in
             eqb-true (getD marks k 0) 1
             (first-by-position t (keepAt marks) (keepAt other) (orderLastFirst t) (kind-falls t) first k (among-order t k (o .known))
             (λ q. o .differ (same-mark (getD marks k 0) (getD other k 0) (p .low k (o .known)) (f .list .low k (o .known)) q))
@@ -133,67 +134,67 @@ module _ (t : Table) where
       }
 
   -- a keep list that fits, by its marks
-  module _ (other : List Bool) (e : fitsBy (isNested t) (jobsLastFirst t) other ≡ true) where
+  module _ (other : List Bool) (e : fitsBy (isNested t) (jobsLastFirst launch t) other ≡ true) where
     other-length : length other ≡ t .count
-    other-length = length-by (isNested t) (jobsLastFirst t) other e ∙ jobs-length t
+    other-length = length-by (isNested t) (jobsLastFirst launch t) other e ∙ jobs-length launch t
 
-    other-fitting : Fitting t (marksOf t other)
-    other-fitting = fitting-exactly t other other-length .0 e
+    other-fitting : Fitting launch t (marksOf launch t other)
+    other-fitting = fitting-exactly launch t other other-length .0 e
 
-    other-discarded : discarded (jobsLastFirst t) other ≡ discardedCount t (marksOf t other)
-    other-discarded = rw (keeps-back t other other-length) at (keeps-discarded t (marksOf t other) (marks-list t other))
+    other-discarded : discarded (jobsLastFirst launch t) other ≡ discardedCount t (marksOf launch t other)
+    other-discarded = rw (keeps-back launch t other other-length) at (keeps-discarded launch t (marksOf launch t other) (marks-list launch t other))
 
-    other-ticks : keptTicks (jobsLastFirst t) other ≡ keptTicksOf t (marksOf t other)
-    other-ticks = rw (keeps-back t other other-length) at (keeps-ticks t (marksOf t other) (marks-list t other))
+    other-ticks : keptTicks (jobsLastFirst launch t) other ≡ keptTicksOf t (marksOf launch t other)
+    other-ticks = rw (keeps-back launch t other other-length) at (keeps-ticks launch t (marksOf launch t other) (marks-list launch t other))
 
   -- and one that follows them by position has a keep list that meets them.
-  rules-meet : (marks : List ℕ) → ByRules t marks → MeetsBy (isNested t) (jobsLastFirst t) (keepsOf t marks)
+  rules-meet : (marks : List ℕ) → ByRules launch t marks → MeetsBy (isNested t) (jobsLastFirst launch t) (keepsOf t marks)
   rules-meet marks r =
       let order = orderLastFirst t in
       let p : KeepList t marks = r .fit .list in
-      let mine : discarded (jobsLastFirst t) (keepsOf t marks) ≡ discardedCount t marks = keeps-discarded t marks p in
-      let ticks : keptTicks (jobsLastFirst t) (keepsOf t marks) ≡ keptTicksOf t marks = keeps-ticks t marks p in
+      let mine : discarded (jobsLastFirst launch t) (keepsOf t marks) ≡ discardedCount t marks = keeps-discarded launch t marks p in
+      let ticks : keptTicks (jobsLastFirst launch t) (keepsOf t marks) ≡ keptTicksOf t marks = keeps-ticks launch t marks p in
       record {
-        fit = keeps-fitting t marks p .1 (r .fit);
-        leastDiscarded = λ other e. omega (arith, other-discarded other e, r .fewest (marksOf t other) (other-fitting other e));
+        fit = keeps-fitting launch t marks p .1 (r .fit);
+        leastDiscarded = λ other e. omega (arith, other-discarded other e, r .fewest (marksOf launch t other) (other-fitting other e));
         leastTicks = λ n other e d.
-            omega (arith, other-ticks other e, r .least n (marksOf t other) (other-fitting other e) (sym (other-discarded other e) ∙ (d ∙ mine)));
+            omega (arith, other-ticks other e, r .least n (marksOf launch t other) (other-fitting other e) (sym (other-discarded other e) ∙ (d ∙ mine)));
         last = λ other e d q.
-            let f : Fitting t (marksOf t other) = other-fitting other e in
-            let low : (k : ℕ) → k < t .count → keepAt marks k ≡ keepAt (marksOf t other) k → getD marks k 0 ≡ getD (marksOf t other) k 0 =
-            λ k l z. same-mark (getD marks k 0) (getD (marksOf t other) k 0) (p .low k l) (f .list .low k l) z in
-            rw (keeps-back t other (other-length other e)) at
-            (there-first t (keepAt marks) (keepAt (marksOf t other)) order (kind-falls t)
+            let f : Fitting launch t (marksOf launch t other) = other-fitting other e in
+            let low : (k : ℕ) → k < t .count → keepAt marks k ≡ keepAt (marksOf launch t other) k → getD marks k 0 ≡ getD (marksOf launch t other) k 0 =
+            λ k l z. same-mark (getD marks k 0) (getD (marksOf launch t other) k 0) (p .low k l) (f .list .low k l) z in
+            rw (keeps-back launch t other (other-length other e)) at
+            (there-first t (keepAt marks) (keepAt (marksOf launch t other)) order (kind-falls t)
             (λ k m n a.
             eq-eqb (getD marks k 0) 1
-            (r .last (marksOf t other) f (sym (other-discarded other e) ∙ (d ∙ mine)) (λ z. sym (other-ticks other e) ∙ (q z ∙ ticks)) k
+            (r .last (marksOf launch t other) f (sym (other-discarded other e) ∙ (d ∙ mine)) (λ z. sym (other-ticks other e) ∙ (q z ∙ ticks)) k
             (record {
               known = order-among t k m;
               differ = λ z. n (ap (λ (mark : ℕ). eqb mark 1) z);
-              later = λ j l b. low j l (order-all t (λ i. kindBefore t k i ≡ true → keepAt marks i ≡ keepAt (marksOf t other) i) a j l b);
+              later = λ j l b. low j l (order-all t (λ i. kindBefore t k i ≡ true → keepAt marks i ≡ keepAt (marksOf launch t other) i) a j l b);
             }))));
       }
 
   -- The rules settle the list.
-  pub rules-one : (a b : List ℕ) → ByRules t a → ByRules t b → a ≡ b
+  pub rules-one : (a b : List ℕ) → ByRules launch t a → ByRules launch t b → a ≡ b
   rules-one a b p q =
-      marks-one t a b (p .fit .list) (q .fit .list)
-      (meets-chosen-by (isNested t) (jobsLastFirst t) (keepsOf t a) (rules-meet a p)
-      ∙ sym (meets-chosen-by (isNested t) (jobsLastFirst t) (keepsOf t b) (rules-meet b q)))
+      marks-one launch t a b (p .fit .list) (q .fit .list)
+      (meets-chosen-by (isNested t) (jobsLastFirst launch t) (keepsOf t a) (rules-meet a p)
+      ∙ sym (meets-chosen-by (isNested t) (jobsLastFirst launch t) (keepsOf t b) (rules-meet b q)))
 
   -- Where the mandatory parts alone fit, the planner's marks follow the rules.
-  pub plan-by-rules : mandatoryFit t ≡ true → ByRules t (planMarks t)
-  unfolding planMarks keepList mandatoryFit
+  pub plan-by-rules : mandatoryFit launch t ≡ true → ByRules launch t (planMarks launch t)
+  unfolding planMarks marksBy keepList mandatoryFit
   plan-by-rules none =
-      let jobs = jobsLastFirst t in
+      let jobs = jobsLastFirst launch t in
       let keeps = chosenAs (isNested t) jobs in
       let meets = chosen-meets-by (isNested t) jobs none in
-      let back : keepsOf t (marksOf t keeps) ≡ keeps = keeps-back t keeps (length-by (isNested t) jobs keeps (meets .fit) ∙ jobs-length t) in
-      meets-by-rules (marksOf t keeps) (marks-list t keeps) (rw back meets) (rw back (zero-by (isNested t) jobs none))
+      let back : keepsOf t (marksOf launch t keeps) ≡ keeps = keeps-back launch t keeps (length-by (isNested t) jobs keeps (meets .fit) ∙ jobs-length launch t) in
+      meets-by-rules (marksOf launch t keeps) (marks-list launch t keeps) (rw back meets) (rw back (zero-by (isNested t) jobs none))
 
   -- So a list that follows them is the planner's.
-  pub rules-plan : (marks : List ℕ) → ByRules t marks → marks ≡ planMarks t
+  pub rules-plan : (marks : List ℕ) → ByRules launch t marks → marks ≡ planMarks launch t
   unfolding mandatoryFit
   rules-plan marks r =
-      rules-one marks (planMarks t) r
-      (plan-by-rules (none-by (isNested t) (jobsLastFirst t) (keepsOf t marks) (keeps-fitting t marks (r .fit .list) .1 (r .fit))))
+      rules-one marks (planMarks launch t) r
+      (plan-by-rules (none-by (isNested t) (jobsLastFirst launch t) (keepsOf t marks) (keeps-fitting launch t marks (r .fit .list) .1 (r .fit))))

@@ -1,5 +1,5 @@
 -- The jobs of an accepted table in the order of its kind: a chain, or similar jobs.
-use mathlib.Core.Path.{_≡_}
+use Prim.Native.Nat.{ℕ}
 use Rattle.base.proofs.TestLaws.{cases}
 use Rattle.table.specs.declared.Table.{Table}
 use Rattle.table.specs.Kinds.{isNested}
@@ -9,5 +9,5 @@ use Rattle.orders.proofs.NestLaws.{nest-chain}
 use Rattle.orders.proofs.SimilarLaws.{similar-jobs}
 use Rattle.plans.specs.KindJobs.{JobsOfKind}
 
-pub kind-jobs : (t : Table) → Legal t → JobsOfKind (isNested t) (jobsLastFirst t)
-kind-jobs t legal = cases (isNested t) (λ e. rw e (nest-chain t legal e)) (λ e. rw e (similar-jobs t legal e))
+pub kind-jobs : (launch : ℕ) (t : Table) → Legal t → JobsOfKind (isNested t) (jobsLastFirst launch t)
+kind-jobs launch t legal = cases (isNested t) (λ e. rw e (nest-chain launch t legal e)) (λ e. rw e (similar-jobs launch t legal e))

@@ -6,10 +6,10 @@ use mathlib.Core.Logic.{_↔_, _≢_, inl, inr}
 use mathlib.Core.Bool.{Bool, true, false, not}
 use mathlib.Core.List.{List, [], _∷_, map, reverse, reverse-cons}
 use native.Mathlib.Omega.{arith}
-use native.Mathlib.Decide.{decLt, ℕ-discrete}
+use native.Mathlib.Decide.{ℕ-discrete}
 use lib.Dec.{eqb, ltb}
 use borrow.Author.Tests.{eq-eqb, ne-eqb, lt-ltb, le-ltb, ltb-true, eqb-true}
-use Rattle.base.specs.Tests.{pick, and, or}
+use Rattle.base.specs.Tests.{pick, and}
 use Rattle.base.specs.Members.{All, Any}
 use Rattle.base.proofs.TestLaws.{cases, both-absurd, or-first, or-second}
 use Rattle.base.proofs.MemberLaws.{all-members, all-reverse}
@@ -106,7 +106,7 @@ on-there : (j k : ℕ) (js : List ℕ) → j ≢ k → fromOn (j ∷ js) k ≡ f
 unfolding fromOn
 on-there j k js n = rw (ne-eqb j k n)
 
-module _ (t : Table) where
+module _ (launch : ℕ) (t : Table) where
   -- from a position on stand it and those before it, and no others
   on-members : (js : List ℕ) → Sorted (kindBefore t) js → (k j : ℕ) → Any (λ i. i ≡ j) (fromOn js k) → Any (λ i. i ≡ j) js × (upTo t j k ≡ true)
   unfolding fromOn upTo
@@ -142,15 +142,15 @@ module _ (t : Table) where
       (λ f. both-absurd (kindBefore t j k) (sym (or-second (eqb j k) (kindBefore t j k) f) ∙ u) (kind-once t k j l₂)))
 
   -- the jobs of positions, and those of the positions below n that pass a test
-  jobs-of : (P : Job → Type 0) (js : List ℕ) (k : ℕ) → Any (λ i. i ≡ k) js → P (jobAt t k) → Any P (map (jobAt t) js)
+  jobs-of : (P : Job → Type 0) (js : List ℕ) (k : ℕ) → Any (λ i. i ≡ k) js → P (jobAt launch t k) → Any P (map (jobAt launch t) js)
   jobs-of P (i ∷ js) k (inl e) p = inl (rw e p)
   jobs-of P (i ∷ js) k (inr m) p = inr (jobs-of P js k m p)
 
-  of-jobs : (P : Job → Type 0) (js : List ℕ) → Any P (map (jobAt t) js) → (k : ℕ) × Any (λ i. i ≡ k) js × P (jobAt t k)
+  of-jobs : (P : Job → Type 0) (js : List ℕ) → Any P (map (jobAt launch t) js) → (k : ℕ) × Any (λ i. i ≡ k) js × P (jobAt launch t k)
   of-jobs P (i ∷ js) (inl p) = (i, inl refl, p)
   of-jobs P (i ∷ js) (inr m) = let r = of-jobs P js m in (r .0, inr (r .1), r .2)
 
-  that-of : (P : Job → Type 0) (test : ℕ → Bool) (n k : ℕ) → k < n → test k ≡ true → P (jobAt t k) → Any P (jobsThat t test n)
+  that-of : (P : Job → Type 0) (test : ℕ → Bool) (n k : ℕ) → k < n → test k ≡ true → P (jobAt launch t k) → Any P (jobsThat launch t test n)
   unfolding jobsThat
   that-of P test zero k l e p = absurd (omega arith)
   that-of P test (suc n) k l e p =
@@ -161,25 +161,25 @@ module _ (t : Table) where
             cases (test n) (λ f. rw f (inr r)) (λ f. rw f r)
       ]
 
-  of-that : (P : Job → Type 0) (test : ℕ → Bool) (n : ℕ) → Any P (jobsThat t test n) → (k : ℕ) × (k < n) × (test k ≡ true) × P (jobAt t k)
+  of-that : (P : Job → Type 0) (test : ℕ → Bool) (n : ℕ) → Any P (jobsThat launch t test n) → (k : ℕ) × (k < n) × (test k ≡ true) × P (jobAt launch t k)
   unfolding jobsThat
   of-that P test zero m = absurd m
   of-that P test (suc n) m =
       cases (test n)
-      (λ f. let m₂ : Any P (jobAt t n ∷ jobsThat t test n) = rw f at m in here f m₂ (λ q. of-that P test n q))
+      (λ f. let m₂ : Any P (jobAt launch t n ∷ jobsThat launch t test n) = rw f at m in here f m₂ (λ q. of-that P test n q))
       (λ f. let r = of-that P test n (rw f at m) in (r .0, omega (arith, r .1), r .2, r .3))
     where
-      here : test n ≡ true → Any P (jobAt t n ∷ jobsThat t test n)
-          → (Any P (jobsThat t test n) → (k : ℕ) × (k < n) × (test k ≡ true) × P (jobAt t k))
-          → (k : ℕ) × (k < suc n) × (test k ≡ true) × P (jobAt t k)
+      here : test n ≡ true → Any P (jobAt launch t n ∷ jobsThat launch t test n)
+          → (Any P (jobsThat launch t test n) → (k : ℕ) × (k < n) × (test k ≡ true) × P (jobAt launch t k))
+          → (k : ℕ) × (k < suc n) × (test k ≡ true) × P (jobAt launch t k)
       here f (inl p) g = (n, omega arith, f, p)
       here f (inr q) g = let r = g q in (r .0, omega (arith, r .1), r .2, r .3)
 
   -- A running of the task at k and all before it, in an order of all positions below n, is one of the jobs from k on.
   running-on : (n : ℕ) (js : List ℕ) → Sorted (kindBefore t) js → All (λ j. j < n) js → ((j : ℕ) → j < n → Any (λ i. i ≡ j) js) → (k : ℕ) → k < n
-      → (owner : Owner) → Running (jobsThat t (λ j. upTo t j k) n) owner ↔ Running (map (jobAt t) (fromOn js k)) owner
+      → (owner : Owner) → Running (jobsThat launch t (λ j. upTo t j k) n) owner ↔ Running (map (jobAt launch t) (fromOn js k)) owner
   running-on n js s b all k l owner =
-      lists.running-same Whole (jobsThat t (λ j. upTo t j k) n) (map (jobAt t) (fromOn js k)) owner
+      lists.running-same Whole (jobsThat launch t (λ j. upTo t j k) n) (map (jobAt launch t) (fromOn js k)) owner
       (λ job m.
       let r = of-that (λ other. other ≡ job) (λ j. upTo t j k) n m in
       jobs-of (λ other. other ≡ job) (fromOn js k) (r .0) (members-on js s k (r .0) (all k l) (all (r .0) (r .1)) (r .2)) (r .3))
@@ -191,12 +191,12 @@ module _ (t : Table) where
   -- A search for the first unmet task, over a test of the mandatory parts of jobs.
   module _ (nested : Bool) where
     -- what fits, fits from each position on
-    fit-on : (js : List ℕ) → fit nested (map (jobAt t) js) ≡ true → (k : ℕ) → Any (λ i. i ≡ k) js → fit nested (map (jobAt t) (fromOn js k)) ≡ true
+    fit-on : (js : List ℕ) → fit nested (map (jobAt launch t) js) ≡ true → (k : ℕ) → Any (λ i. i ≡ k) js → fit nested (map (jobAt launch t) (fromOn js k)) ≡ true
     unfolding fromOn
     fit-on (i ∷ js) e k m =
         elim (ℕ-discrete i k) [
           | yes q ↦ rw (eq-eqb i k q) e
-          | no q ↦ rw (ne-eqb i k q) (fit-on js (fit-tail nested (jobAt t i) (map (jobAt t) js) e) k (rest q m))
+          | no q ↦ rw (ne-eqb i k q) (fit-on js (fit-tail nested (jobAt launch t i) (map (jobAt launch t) js) e) k (rest q m))
         ]
       where
         rest : i ≢ k → Any (λ x. x ≡ k) (i ∷ js) → Any (λ x. x ≡ k) js
@@ -204,18 +204,19 @@ module _ (t : Table) where
         rest q (inr m) = m
 
     -- the jobs of positions below n
-    positions-below : (n : ℕ) (js : List ℕ) → All (λ j. j < n) js → All (λ job. job .position < n) (map (jobAt t) js)
+    positions-below : (n : ℕ) (js : List ℕ) → All (λ j. j < n) js → All (λ job. job .position < n) (map (jobAt launch t) js)
     positions-below n [] b = tt
-    positions-below n (j ∷ js) b = (rw (job-position t j) (b .0), positions-below n js (b .1))
+    positions-below n (j ∷ js) b = (rw (job-position launch t j) (b .0), positions-below n js (b .1))
 
     -- the task at a place is the first among some where the mandatory parts of it and those before it do not fit
     pub record UnmetIn (js : List ℕ) (place : ℕ) : Type 0 where
       pub among : Any (λ i. i ≡ place) js
-      pub unfit : fit nested (map (jobAt t) (fromOn js place)) ≡ false
-      pub first : All (λ k. kindBefore t k place ≡ true → fit nested (map (jobAt t) (fromOn js k)) ≡ true) js
+      pub unfit : fit nested (map (jobAt launch t) (fromOn js place)) ≡ false
+      pub first : All (λ k. kindBefore t k place ≡ true → fit nested (map (jobAt launch t) (fromOn js k)) ≡ true) js
 
     -- where something is found, they do not fit
-    found-unfit : (n : ℕ) (jobs : List Job) → All (λ job. job .position < n) jobs → (place : ℕ) → unmetBy nested n jobs ≡ place → place < n → fit nested jobs ≡ false
+    found-unfit : (n : ℕ) (jobs : List Job) → All (λ job. job .position < n) jobs → (place : ℕ) → unmetBy nested n jobs ≡ place → place < n
+        → fit nested jobs ≡ false
     found-unfit n jobs b place e l =
         turned (fit nested jobs) (sym (unmet-test nested n jobs b) ∙ lt-ltb (unmetBy nested n jobs) n (rw e l))
       where
@@ -224,46 +225,47 @@ module _ (t : Table) where
         turned false h = refl
 
     -- what is found is it
-    unmet-in : (n : ℕ) (js : List ℕ) → Sorted (kindBefore t) js → All (λ j. j < n) js → (place : ℕ) → unmetBy nested n (map (jobAt t) js) ≡ place → place < n → UnmetIn js place
+    unmet-in : (n : ℕ) (js : List ℕ) → Sorted (kindBefore t) js → All (λ j. j < n) js → (place : ℕ)
+        → unmetBy nested n (map (jobAt launch t) js) ≡ place → place < n → UnmetIn js place
     unmet-in n [] s b place e l = both-absurd (fit nested []) (fit-empty nested) (found-unfit n [] tt place e l)
     unmet-in n (k ∷ js) s b place e l =
         let below = positions-below n (k ∷ js) b in
-        cases (fit nested (map (jobAt t) js))
+        cases (fit nested (map (jobAt launch t) js))
         (λ f.
-        let bad : fit nested (map (jobAt t) (k ∷ js)) ≡ false = found-unfit n (map (jobAt t) (k ∷ js)) below place e l in
-        let is : k ≡ place = sym (unmet-here nested n (jobAt t k) (map (jobAt t) js) below f bad ∙ job-position t k) ∙ e in
+        let bad : fit nested (map (jobAt launch t) (k ∷ js)) ≡ false = found-unfit n (map (jobAt launch t) (k ∷ js)) below place e l in
+        let is : k ≡ place = sym (unmet-here nested n (jobAt launch t k) (map (jobAt launch t) js) below f bad ∙ job-position launch t k) ∙ e in
         rw (← is)
         (record {
           among = inl refl;
           unfit = rw (on-here k js) bad;
           first = (
             λ q. both-absurd (kindBefore t k k) q (kind-once t k k q),
-            all-members (λ i. kindBefore t i k ≡ true → fit nested (map (jobAt t) (fromOn (k ∷ js) i)) ≡ true) js .1
+            all-members (λ i. kindBefore t i k ≡ true → fit nested (map (jobAt launch t) (fromOn (k ∷ js) i)) ≡ true) js .1
                 (λ i m q. rw (on-there k i js (sorted-other t k i js s m)) (fit-on js f i m)),
           );
         }))
         (λ f.
-        let r = unmet-in n js (s .1) (b .1) place (sym (unmet-there nested n (jobAt t k) (map (jobAt t) js) below f) ∙ e) l in
+        let r = unmet-in n js (s .1) (b .1) place (sym (unmet-there nested n (jobAt launch t k) (map (jobAt launch t) js) below f) ∙ e) l in
         let apart = sorted-other t k place js s (r .among) in
         let l₂ : kindBefore t place k ≡ true = all-members (λ x. kindBefore t x k ≡ true) js .0 (s .0) place (r .among) in
-        let short = all-members (λ i. kindBefore t i place ≡ true → fit nested (map (jobAt t) (fromOn js i)) ≡ true) js .0 (r .first) in
+        let short = all-members (λ i. kindBefore t i place ≡ true → fit nested (map (jobAt launch t) (fromOn js i)) ≡ true) js .0 (r .first) in
         record {
           among = inr (r .among);
           unfit = rw (on-there k place js apart) (r .unfit);
           first = (
             λ q. both-absurd (kindBefore t k place) q (kind-once t place k l₂),
-            all-members (λ i. kindBefore t i place ≡ true → fit nested (map (jobAt t) (fromOn (k ∷ js) i)) ≡ true) js .1
+            all-members (λ i. kindBefore t i place ≡ true → fit nested (map (jobAt launch t) (fromOn (k ∷ js) i)) ≡ true) js .1
                 (λ i m q. rw (on-there k i js (sorted-other t k i js s m)) (short i m q)),
           );
         })
 
     -- from each position on they are of the kind
-    kind-on : (js : List ℕ) → JobsOfKind nested (map (jobAt t) js) → (k : ℕ) → Any (λ i. i ≡ k) js → JobsOfKind nested (map (jobAt t) (fromOn js k))
+    kind-on : (js : List ℕ) → JobsOfKind nested (map (jobAt launch t) js) → (k : ℕ) → Any (λ i. i ≡ k) js → JobsOfKind nested (map (jobAt launch t) (fromOn js k))
     unfolding fromOn
     kind-on (i ∷ js) c k m =
         elim (ℕ-discrete i k) [
           | yes q ↦ rw (eq-eqb i k q) c
-          | no q ↦ rw (ne-eqb i k q) (kind-on js (kind-rest nested (jobAt t i) (map (jobAt t) js) c) k (later q m))
+          | no q ↦ rw (ne-eqb i k q) (kind-on js (kind-rest nested (jobAt launch t i) (map (jobAt launch t) js) c) k (later q m))
         ]
       where
         later : i ≢ k → Any (λ x. x ≡ k) (i ∷ js) → Any (λ x. x ≡ k) js
@@ -271,41 +273,41 @@ module _ (t : Table) where
         later q (inr m) = m
 
     module _ (n : ℕ) (js : List ℕ) (s : Sorted (kindBefore t) js) (b : All (λ j. j < n) js) (all : (j : ℕ) → j < n → Any (λ i. i ≡ j) js)
-        (c : JobsOfKind nested (map (jobAt t) js)) where
+        (c : JobsOfKind nested (map (jobAt launch t) js)) where
       -- The place that is found: no running of the task there and all before it,
-      pub found-unmet : (place : ℕ) → unmetBy nested n (map (jobAt t) js) ≡ place → place < n → (owner : Owner)
-          → Running (jobsThat t (λ j. upTo t j place) n) owner → ⊥
+      pub found-unmet : (place : ℕ) → unmetBy nested n (map (jobAt launch t) js) ≡ place → place < n → (owner : Owner)
+          → Running (jobsThat launch t (λ j. upTo t j place) n) owner → ⊥
       found-unmet place e l owner r =
           let u = unmet-in n js s b place e l in
-          both-absurd (fit nested (map (jobAt t) (fromOn js place)))
-          (exists-by nested (map (jobAt t) (fromOn js place)) (kind-on js c place (u .among)) .0 (owner, running-on n js s b all place l owner .0 r))
+          both-absurd (fit nested (map (jobAt launch t) (fromOn js place)))
+          (exists-by nested (map (jobAt launch t) (fromOn js place)) (kind-on js c place (u .among)) .0 (owner, running-on n js s b all place l owner .0 r))
           (u .unfit)
 
       -- and one for each task before it.
-      pub found-first : (place : ℕ) → unmetBy nested n (map (jobAt t) js) ≡ place → place < n → (k : ℕ) → k < n → kindBefore t k place ≡ true
-          → (owner : Owner) × Running (jobsThat t (λ j. upTo t j k) n) owner
+      pub found-first : (place : ℕ) → unmetBy nested n (map (jobAt launch t) js) ≡ place → place < n → (k : ℕ) → k < n → kindBefore t k place ≡ true
+          → (owner : Owner) × Running (jobsThat launch t (λ j. upTo t j k) n) owner
       found-first place e l k m q =
           let u = unmet-in n js s b place e l in
-          let f = all-members (λ i. kindBefore t i place ≡ true → fit nested (map (jobAt t) (fromOn js i)) ≡ true) js .0 (u .first) k (all k m) q in
-          let r = exists-by nested (map (jobAt t) (fromOn js k)) (kind-on js c k (all k m)) .1 f in
+          let f = all-members (λ i. kindBefore t i place ≡ true → fit nested (map (jobAt launch t) (fromOn js i)) ≡ true) js .0 (u .first) k (all k m) q in
+          let r = exists-by nested (map (jobAt launch t) (fromOn js k)) (kind-on js c k (all k m)) .1 f in
           (r .0, running-on n js s b all k m (r .0) .1 (r .1))
 
 -- The search in an accepted table finds a place exactly where it is that of the first unmet task.
-module _ (t : Table) (legal : Legal t) where
-  unmet-found : firstUnmet t < t .count → FirstUnmet t (firstUnmet t)
+module _ (launch : ℕ) (t : Table) (legal : Legal t) where
+  unmet-found : firstUnmet launch t < t .count → FirstUnmet launch t (firstUnmet launch t)
   unfolding firstUnmet jobsUpTo jobsLastFirst
   unmet-found l =
       let order = orderLastFirst t in
       let below = all-members (λ j. j < t .count) order .1 (order-among t) in
-      let kind = kind-jobs t legal in
+      let kind = kind-jobs launch t legal in
       record {
         known = l;
-        unmet = found-unmet t (isNested t) (t .count) order (kind-falls t) below (among-order t) kind (firstUnmet t) refl l;
-        first = found-first t (isNested t) (t .count) order (kind-falls t) below (among-order t) kind (firstUnmet t) refl l;
+        unmet = found-unmet launch t (isNested t) (t .count) order (kind-falls t) below (among-order t) kind (firstUnmet launch t) refl l;
+        first = found-first launch t (isNested t) (t .count) order (kind-falls t) below (among-order t) kind (firstUnmet launch t) refl l;
       }
 
   -- there is one at most
-  unmet-one : (a b : ℕ) → FirstUnmet t a → FirstUnmet t b → a ≡ b
+  unmet-one : (a b : ℕ) → FirstUnmet launch t a → FirstUnmet launch t b → a ≡ b
   unmet-one a b p q =
       elim (ℕ-discrete a b) [
         | yes e ↦ e
@@ -317,20 +319,20 @@ module _ (t : Table) (legal : Legal t) where
       ]
 
   -- where all mandatory parts fit, those up to each task do
-  all-met : ltb (firstUnmet t) (t .count) ≡ false → (place : ℕ) → place < t .count → (owner : Owner) × Running (jobsUpTo t place) owner
+  all-met : ltb (firstUnmet launch t) (t .count) ≡ false → (place : ℕ) → place < t .count → (owner : Owner) × Running (jobsUpTo launch t place) owner
   unfolding jobsUpTo jobsLastFirst mandatoryFit
   all-met e place l =
       let order = orderLastFirst t in
       let below = all-members (λ j. j < t .count) order .1 (order-among t) in
-      let fits = fit-on t (isNested t) order (none-unmet t e) place (among-order t place l) in
-      let r = exists-by (isNested t) (map (jobAt t) (fromOn order place)) (kind-on t (isNested t) order (kind-jobs t legal) place (among-order t place l)) .1 fits in
-      (r .0, running-on t (t .count) order (kind-falls t) below (among-order t) place l (r .0) .1 (r .1))
+      let fits = fit-on launch t (isNested t) order (none-unmet launch t e) place (among-order t place l) in
+      let r = exists-by (isNested t) (map (jobAt launch t) (fromOn order place)) (kind-on launch t (isNested t) order (kind-jobs launch t legal) place (among-order t place l)) .1 fits in
+      (r .0, running-on launch t (t .count) order (kind-falls t) below (among-order t) place l (r .0) .1 (r .1))
 
-  pub unmet-first : (place : ℕ) → ((firstUnmet t ≡ place) × (place < t .count)) ↔ FirstUnmet t place
+  pub unmet-first : (place : ℕ) → ((firstUnmet launch t ≡ place) × (place < t .count)) ↔ FirstUnmet launch t place
   unmet-first place = (
     λ h. rw (h .0) at (unmet-found (rw (h .0) (h .1))),
     λ f.
-        cases (ltb (firstUnmet t) (t .count))
-        (λ e. (unmet-one (firstUnmet t) place (unmet-found (ltb-true (firstUnmet t) (t .count) e)) f, f .known))
+        cases (ltb (firstUnmet launch t) (t .count))
+        (λ e. (unmet-one (firstUnmet launch t) place (unmet-found (ltb-true (firstUnmet launch t) (t .count) e)) f, f .known))
         (λ e. let r = all-met e place (f .known) in absurd (f .unmet (r .0) (r .1))),
   )

@@ -41,7 +41,7 @@ upTo-after t j k e =
     (ne-eqb j k (λ q. let self : kindBefore t k k ≡ true = rw q at e in both-absurd (kindBefore t k k) self (kind-once t k k self)))
     (kind-once t k j e)
 
-module _ (t : Table) (ticks : ℕ → ℕ) where
+module _ (launch : ℕ) (t : Table) (ticks : ℕ → ℕ) where
   -- the ticks up to a task among the positions of a list
   unfoldable pub listUpTo : List ℕ → ℕ → ℕ
   listUpTo js k = sumOver (λ j. pick (upTo t j k) (ticks j) 0) js
@@ -68,7 +68,7 @@ module _ (t : Table) (ticks : ℕ → ℕ) where
 
   -- works of positions that stand last first fit exactly where each window has the ticks for those up to its task
   pub list-within : (js : List ℕ) → Sorted (kindBefore t) js
-      → (worksFit (map (jobAt t) js) (map ticks js) ≡ true) ↔ All (λ k. listUpTo js k ≤ windowTicks (jobAt t k)) js
+      → (worksFit (map (jobAt launch t) js) (map ticks js) ≡ true) ↔ All (λ k. listUpTo js k ≤ windowTicks (jobAt launch t k)) js
   unfolding worksFit
   list-within [] s = (λ e. tt, λ h. refl)
   list-within (k ∷ js) s =
@@ -76,15 +76,15 @@ module _ (t : Table) (ticks : ℕ → ℕ) where
       let sum = list-total js in
       let rest = list-within js (s .1) in
       let inner = all-members (λ i. kindBefore t i k ≡ true) js .0 (s .0) in
-      let short = all-members (λ i. listUpTo js i ≤ windowTicks (jobAt t i)) js in
-      let long = all-members (λ i. listUpTo (k ∷ js) i ≤ windowTicks (jobAt t i)) js in (
+      let short = all-members (λ i. listUpTo js i ≤ windowTicks (jobAt launch t i)) js in
+      let long = all-members (λ i. listUpTo (k ∷ js) i ≤ windowTicks (jobAt launch t i)) js in (
         λ e. (
-          omega (arith, works-head (jobAt t k) (map (jobAt t) js) (ticks k) (map ticks js) e),
-          long .1 (λ i m. rw (up-rest k i js (inner i m)) (short .0 (rest .0 (works-tail (jobAt t k) (map (jobAt t) js) (ticks k) (map ticks js) e)) i m)),
+          omega (arith, works-head (jobAt launch t k) (map (jobAt launch t) js) (ticks k) (map ticks js) e),
+          long .1 (λ i m. rw (up-rest k i js (inner i m)) (short .0 (rest .0 (works-tail (jobAt launch t k) (map (jobAt launch t) js) (ticks k) (map ticks js) e)) i m)),
         ),
         λ h.
             let head = h .0 in
-            works-cons (jobAt t k) (map (jobAt t) js) (ticks k) (map ticks js) (omega arith)
+            works-cons (jobAt launch t k) (map (jobAt launch t) js) (ticks k) (map ticks js) (omega arith)
             (rest .1 (short .1 (λ i m. rw (up-rest k i js (inner i m)) at (long .0 (h .1) i m)))),
       )
 
@@ -94,11 +94,11 @@ module _ (t : Table) (ticks : ℕ → ℕ) where
   up-order k = sum-order (kindBefore t) (λ j. pick (upTo t j k) (ticks j) 0) (t .count)
 
   -- Works of the tasks of a table fit exactly where those up to each task come to no more than the ticks of its window.
-  pub works-within : (worksFit (jobsLastFirst t) (map ticks (orderLastFirst t)) ≡ true) ↔ ((k : ℕ) → k < t .count → Within t ticks k)
+  pub works-within : (worksFit (jobsLastFirst launch t) (map ticks (orderLastFirst t)) ≡ true) ↔ ((k : ℕ) → k < t .count → Within launch t ticks k)
   unfolding jobsLastFirst
   works-within =
       let order = orderLastFirst t in
       let law = list-within order (kind-falls t) in (
-        λ e k l. rw (← up-order k) (order-all t (λ i. listUpTo order i ≤ windowTicks (jobAt t i)) (law .0 e) k l),
-        λ h. law .1 (all-order t (λ i. listUpTo order i ≤ windowTicks (jobAt t i)) (λ k l. rw (up-order k) (h k l))),
+        λ e k l. rw (← up-order k) (order-all t (λ i. listUpTo order i ≤ windowTicks (jobAt launch t i)) (law .0 e) k l),
+        λ h. law .1 (all-order t (λ i. listUpTo order i ≤ windowTicks (jobAt launch t i)) (λ k l. rw (up-order k) (h k l))),
       )

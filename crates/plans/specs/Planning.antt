@@ -7,6 +7,7 @@ use lib.ListN.{length, replicate}
 use Rattle.base.specs.Tests.{pick, or}
 use Rattle.base.specs.Places.{places}
 use Rattle.base.specs.Lent.{writtenFront}
+use Rattle.clock.specs.Clock.{badLaunch}
 use Rattle.table.specs.declared.Table.{Table}
 use Rattle.table.specs.Kinds.{isNested}
 use Rattle.table.specs.Answers.{numberOf, placeOf, isAccepted}
@@ -14,12 +15,12 @@ use Rattle.table.specs.Reading.{tableIn, readAnswer}
 use Rattle.schedule.specs.declared.Job.{Job}
 use Rattle.schedule.specs.declared.Run.{Run}
 use Rattle.schedule.specs.Jobs.{windowTicks}
-use Rattle.schedule.specs.Ticks.{one}
+use Rattle.schedule.specs.Ticks.{Owner, one}
 use Rattle.schedule.specs.Runs.{startsOf, endsOf, tasksOf}
 use Rattle.choice.specs.Choice.{keepNone, fits, chosen, kept, discarded}
-use Rattle.placement.specs.Placing.{runsPlaced}
+use Rattle.placement.specs.Placing.{placed, runsPlaced}
 use Rattle.placement.specs.ByPosition.{numberAt}
-use Rattle.sequence.specs.InOrder.{fitsInOrder, runsInOrder, firstLate}
+use Rattle.sequence.specs.InOrder.{fitsInOrder, placedInOrder, runsInOrder, firstLate}
 use Rattle.sequence.specs.OrderChoice.{chosenInOrder}
 use Rattle.orders.specs.KindOrder.{jobsLastFirst}
 use Rattle.plans.specs.declared.Planned.{Planned}
@@ -46,39 +47,25 @@ fitsBy nested jobs keeps = pick nested (fits jobs keeps) (fitsInOrder jobs keeps
 unfoldable pub chosenAs : Bool → List Job → List Bool
 chosenAs nested jobs = pick nested (chosen jobs) (chosenInOrder jobs)
 
--- the runs of the placing under a keep list
+-- who has each tick under a keep list
+unfoldable pub placedBy : Bool → List Job → List Bool → Owner
+placedBy nested jobs keeps = pick nested (placed jobs keeps) (placedInOrder jobs keeps)
+
+-- the runs of that placing
 unfoldable pub runsBy : Bool → List Job → List Bool → List Run
 runsBy nested jobs keeps = pick nested (runsPlaced jobs keeps) (runsInOrder jobs keeps)
-
--- The plan of a table.
-
--- the mandatory parts alone fit
-unfoldable pub mandatoryFit : Table → Bool
-mandatoryFit t = fitsBy (isNested t) (jobsLastFirst t) (keepNone (jobsLastFirst t))
-
--- the place of an 8, and the task count where there is none
-unfoldable pub firstUnmet : Table → ℕ
-firstUnmet t = unmetBy (isNested t) (t .count) (jobsLastFirst t)
-
--- 9: 'a lent list is too short: n marks, 2n − 1 runs'; from the lengths of the lists
-unfoldable pub tooShort : ℕ → ℕ → ℕ → ℕ → ℕ → Bool
-tooShort n marks starts ends tasks = or (ltb marks n) (or (ltb starts (2 * n - 1)) (or (ltb ends (2 * n - 1)) (ltb tasks (2 * n - 1))))
-
--- the keep list of a table, in the order of its kind, last first
-unfoldable pub keepList : Table → List Bool
-keepList t = chosenAs (isNested t) (jobsLastFirst t)
 
 -- the mark of a position in a keep list of jobs: 1 kept, 0 discarded
 abbrev pub markAt : List Job → List Bool → ℕ → ℕ
 markAt jobs keeps = numberAt jobs (map one keeps)
 
--- the marks of a plan: the keep list by position
-unfoldable pub planMarks : Table → List ℕ
-planMarks t = places (markAt (jobsLastFirst t) (keepList t)) (t .count)
+-- the marks of a plan of n jobs: the keep list by position
+unfoldable pub marksBy : Bool → ℕ → List Job → List ℕ
+marksBy nested n jobs = places (markAt jobs (chosenAs nested jobs)) n
 
 -- the runs of a plan, by start
-unfoldable pub planRuns : Table → List Run
-planRuns t = runsBy (isNested t) (jobsLastFirst t) (keepList t)
+unfoldable pub planRunsBy : Bool → List Job → List Run
+planRunsBy nested jobs = runsBy nested jobs (chosenAs nested jobs)
 
 -- the reply of a refusal, and of a plan: parts that are not named are 0
 abbrev pub planDeclined : ℕ → ℕ → Planned
@@ -87,9 +74,9 @@ planDeclined number place = record { number = number; place = place; kept = 0; d
 abbrev pub planMade : ℕ → ℕ → ℕ → Planned
 planMade kept discarded runs = record { number = 0; place = 0; kept = kept; discarded = discarded; runs = runs }
 
--- the reply of a table's plan
-unfoldable pub planOf : Table → Planned
-planOf t = planMade (kept (jobsLastFirst t) (keepList t)) (discarded (jobsLastFirst t) (keepList t)) (length (planRuns t))
+-- the reply of a plan of jobs
+unfoldable pub madeBy : Bool → List Job → Planned
+madeBy nested jobs = planMade (kept jobs (chosenAs nested jobs)) (discarded jobs (chosenAs nested jobs)) (length (planRunsBy nested jobs))
 
 -- The lists that a caller lends to planning: the marks, and the columns of the runs.
 pub record LentLists : Type 0 where
@@ -98,6 +85,7 @@ pub record LentLists : Type 0 where
   pub ends : List ℕ
   pub tasks : List ℕ
 
+-- such lists by their contents
 abbrev pub lent : List ℕ → List ℕ → List ℕ → List ℕ → LentLists
 lent marks starts ends tasks = record { marks = marks; starts = starts; ends = ends; tasks = tasks }
 
@@ -105,32 +93,70 @@ lent marks starts ends tasks = record { marks = marks; starts = starts; ends = e
 abbrev pub listsFor : ℕ → LentLists
 listsFor n = lent (replicate n 0) (replicate (2 * n - 1) 0) (replicate (2 * n - 1) 0) (replicate (2 * n - 1) 0)
 
--- 9: 'a lent list is too short'
+-- 9: 'a lent list is too short: n marks, 2n − 1 runs'; from the lengths of the lists
+unfoldable pub tooShort : ℕ → ℕ → ℕ → ℕ → ℕ → Bool
+tooShort n marks starts ends tasks = or (ltb marks n) (or (ltb starts (2 * n - 1)) (or (ltb ends (2 * n - 1)) (ltb tasks (2 * n - 1))))
+
+-- the same of lent lists
 abbrev pub shortLists : ℕ → LentLists → Bool
 shortLists n lists = tooShort n (length (lists .marks)) (length (lists .starts)) (length (lists .ends)) (length (lists .tasks))
 
--- what planning replies on the table of an accepted file: 8, then 9, then the plan
-unfoldable pub planTable : Table → LentLists → Planned
-planTable t lists =
-    pick (ltb (firstUnmet t) (t .count)) (planDeclined 8 (firstUnmet t))
-    (pick (shortLists (t .count) lists) (planDeclined 9 0) (planOf t))
+-- what planning replies on n jobs: 8, then 9, then the plan
+unfoldable pub replyBy : Bool → ℕ → List Job → LentLists → Planned
+replyBy nested n jobs lists =
+    pick (ltb (unmetBy nested n jobs) n) (planDeclined 8 (unmetBy nested n jobs))
+    (pick (shortLists n lists) (planDeclined 9 0) (madeBy nested jobs))
 
--- the reply of planning: reading's refusals, then 8, then 9
-unfoldable pub planReply : List ℕ → LentLists → Planned
-planReply file lists =
-    pick (isAccepted (readAnswer file)) (planTable (tableIn file) lists)
-    (planDeclined (numberOf (readAnswer file)) (placeOf (readAnswer file)))
-
--- the lists with the marks and the runs of a plan written at their fronts
-unfoldable pub planWritten : Table → LentLists → LentLists
-planWritten t lists =
+-- the lists with the marks and the runs of their plan written at the fronts
+unfoldable pub writtenBy : Bool → ℕ → List Job → LentLists → LentLists
+writtenBy nested n jobs lists =
     record {
-      marks = writtenFront (planMarks t) (lists .marks);
-      starts = writtenFront (startsOf (planRuns t)) (lists .starts);
-      ends = writtenFront (endsOf (planRuns t)) (lists .ends);
-      tasks = writtenFront (tasksOf (planRuns t)) (lists .tasks);
+      marks = writtenFront (marksBy nested n jobs) (lists .marks);
+      starts = writtenFront (startsOf (planRunsBy nested jobs)) (lists .starts);
+      ends = writtenFront (endsOf (planRunsBy nested jobs)) (lists .ends);
+      tasks = writtenFront (tasksOf (planRunsBy nested jobs)) (lists .tasks);
     }
 
--- what they hold after planning a table that got a reply: a refusal leaves them as they were
-unfoldable pub listsAfter : Table → Planned → LentLists → LentLists
-listsAfter t reply lists = pick (eqb (reply .number) 0) (planWritten t lists) lists
+-- what they hold after planning n jobs that got a reply: a refusal leaves them as they were
+unfoldable pub afterBy : Bool → ℕ → List Job → Planned → LentLists → LentLists
+afterBy nested n jobs reply lists = pick (eqb (reply .number) 0) (writtenBy nested n jobs lists) lists
+
+-- The plan of a table at a launch tick, which is that of its jobs in the order of its kind, last first.
+
+-- the mandatory parts alone fit
+unfoldable pub mandatoryFit : ℕ → Table → Bool
+mandatoryFit launch t = fitsBy (isNested t) (jobsLastFirst launch t) (keepNone (jobsLastFirst launch t))
+
+-- the place of an 8, and the task count where there is none
+unfoldable pub firstUnmet : ℕ → Table → ℕ
+firstUnmet launch t = unmetBy (isNested t) (t .count) (jobsLastFirst launch t)
+
+-- the keep list, in the order of the kind, last first
+unfoldable pub keepList : ℕ → Table → List Bool
+keepList launch t = chosenAs (isNested t) (jobsLastFirst launch t)
+
+-- the marks: the keep list by position
+unfoldable pub planMarks : ℕ → Table → List ℕ
+planMarks launch t = marksBy (isNested t) (t .count) (jobsLastFirst launch t)
+
+-- the runs, by start
+unfoldable pub planRuns : ℕ → Table → List Run
+planRuns launch t = planRunsBy (isNested t) (jobsLastFirst launch t)
+
+-- the reply of a plan
+unfoldable pub planOf : ℕ → Table → Planned
+planOf launch t = madeBy (isNested t) (jobsLastFirst launch t)
+
+-- what planning replies on the table of an accepted file: 14, then 8 and 9, then the plan
+unfoldable pub planTable : ℕ → Table → LentLists → Planned
+planTable launch t lists = pick (badLaunch launch) (planDeclined 14 0) (replyBy (isNested t) (t .count) (jobsLastFirst launch t) lists)
+
+-- the reply of planning: reading's refusals, then 14, 8 and 9
+unfoldable pub planReply : ℕ → List ℕ → LentLists → Planned
+planReply launch file lists =
+    pick (isAccepted (readAnswer file)) (planTable launch (tableIn file) lists)
+    (planDeclined (numberOf (readAnswer file)) (placeOf (readAnswer file)))
+
+-- what the lists hold after planning a table that got a reply
+unfoldable pub listsAfter : ℕ → Table → Planned → LentLists → LentLists
+listsAfter launch t reply lists = afterBy (isNested t) (t .count) (jobsLastFirst launch t) reply lists

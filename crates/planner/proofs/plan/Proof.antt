@@ -1,6 +1,6 @@
 -- `planner::plan` meets its contract: the demands follow from the reply and from what the lists hold.
 use borrow.Author.Needs.{needs}
-use Rattle.plans.proofs.ReplyLaws.{call-clauses}
+use Rattle.plans.proofs.CallLaws.{call-clauses}
 use Rattle.planner.proofs.plan.Statement.{statement}
 use Rattle.planner.proofs.plan.Tie as tie
 
@@ -24,9 +24,9 @@ returns c =
     let counted = c .before .before .before .before .before .before .before .before .before in
     let start = counted .before .before .before .before .before .before .before .before .before .before in
     let made = counted .plan-counted in
-    call-clauses (start .args .file .now) (made .result .reply)
+    call-clauses (start .args .launch) (start .args .file .now) (made .result .reply)
     (record { marks = start .args .marks .now; starts = start .args .starts .now; ends = start .args .ends .now; tasks = start .args .tasks .now })
-    (record { marks = made .last .1 .0; starts = made .last .1 .1 .0; ends = made .last .1 .1 .1 .0; tasks = made .last .1 .1 .1 .1 .0 })
+    (record { marks = made .last .1 .1 .0; starts = made .last .1 .1 .1 .0; ends = made .last .1 .1 .1 .1 .0; tasks = made .last .1 .1 .1 .1 .1 .0 })
     (record { reply-is = made .ensures .1 .0; lists-are = made .ensures .1 .1 })
 
 pub plan-spec : {M : Type 1} → statement M

@@ -13,7 +13,7 @@ use Rattle.table.proofs.AnswerLaws.{told-refused, refused-number}
 use Rattle.table.proofs.RoundTrip.{read-legal, read-answer, read-is, read-nested}
 use Rattle.plans.specs.declared.Planned.{Planned}
 use Rattle.plans.specs.Planning.{LentLists, planDeclined, planTable, listsAfter}
-use Rattle.plans.proofs.ReplyLaws.{lists-kept, file-refused, file-accepted}
+use Rattle.plans.proofs.ReplyLaws.{table-kept, file-refused, file-accepted}
 use Rattle.planner.proofs.plan_counted.Statement.{statement}
 use Rattle.planner.proofs.plan_counted.Tie as tie
 
@@ -57,8 +57,8 @@ returns c =
     let says = c .declined .ensures ∙ ap₂ planDeclined (c .before .before .number .ensures ∙ ap numberOf answer) (c .before .place .ensures ∙ ap placeOf answer) in (
       count-is read,
       (
-        says ∙ sym (file-refused file _ bad),
-        lists-kept (tableIn file) (c .declined .result) (lent start) (ap (λ (p : Planned). eqb (p .number) 0) says ∙ refused-number (readAnswer file) bad),
+        says ∙ sym (file-refused (start .args .launch) file _ bad),
+        table-kept (start .args .launch) (tableIn file) (c .declined .result) (lent start) (ap (λ (p : Planned). eqb (p .number) 0) says ∙ refused-number (readAnswer file) bad),
       ),
     )
 
@@ -92,8 +92,8 @@ returns-2 c =
     let made = planned .plan-table in (
       count-is (told .before .before .before),
       (
-        made .ensures .0 ∙ (ap (λ (t : Table). planTable t (lent start)) e ∙ sym (file-accepted file _ (accepted told))),
-        made .ensures .1 ∙ ap (λ (t : Table). listsAfter t (made .result) (lent start)) e,
+        made .ensures .0 ∙ (ap (λ (t : Table). planTable (start .args .launch) t (lent start)) e ∙ sym (file-accepted (start .args .launch) file _ (accepted told))),
+        made .ensures .1 ∙ ap (λ (t : Table). listsAfter (start .args .launch) t (made .result) (lent start)) e,
       ),
     )
 

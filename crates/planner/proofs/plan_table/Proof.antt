@@ -1,21 +1,65 @@
--- `planner::plan_table` meets its contract: by the table's kind it is one planning or the other.
-use mathlib.Core.Path.{sym, _∙_}
+-- `planner::plan_table` meets its contract: a launch tick that is not accepted ends the call and touches no list; by the table's kind it is then one
+-- planning or the other.
+use Prim.Native.Nat.{_≤_}
+use mathlib.Core.Path.{_≡_, sym, ap, _∙_}
+use mathlib.Core.Bool.{true, false}
 use borrow.Author.Needs.{needs}
+use borrow.Author.Tests.{ltb-false}
+use lib.Dec.{eqb}
+use Rattle.base.specs.Limits.{maxLaunch}
+use Rattle.clock.specs.Clock.{badLaunch}
+use Rattle.plans.specs.declared.Planned.{Planned}
+use Rattle.plans.specs.Planning.{LentLists}
+use Rattle.plans.specs.KindJobs.{HeldJobs}
+use Rattle.plans.proofs.ReplyLaws.{table-launch, table-kept, reply-of-jobs, lists-of-jobs}
+use Rattle.plans.proofs.ArrayLaws.{held-table}
 use Rattle.planner.proofs.plan_table.Statement.{statement}
 use Rattle.planner.proofs.plan_table.Tie as tie
+
+-- the launch tick was looked at
+accepted : (c : tie.Else1) → badLaunch (c .before .before .before .before .before .before .args .launch) ≡ false
+accepted c = sym (c .before .bad-launch .ensures) ∙ c .if1 .left
+
+low : (c : tie.After-struct-known) → c .before .before .before .before .before .before .before .args .launch ≤ maxLaunch
+low c = ltb-false maxLaunch _ (accepted (c .before))
+
+-- the lists that are lent
+abbrev lent : (c : tie.Start) → LentLists
+lent c = record { marks = c .args .marks .now; starts = c .args .starts .now; ends = c .args .ends .now; tasks = c .args .tasks .now }
+
+bad-launch-requires : tie.Need-bad-launch-requires
+bad-launch-requires c κs = search needs
+
+declined-requires : tie.Need-declined-requires
+declined-requires c κs = search needs
+
+returns : tie.Need-returns
+returns c =
+    let start = c .before .before .before .before .before .before .before in (
+      c .declined .ensures
+          ∙ sym (table-launch (start .args .launch) (start .args .table) (lent start) (sym (c .before .before .bad-launch .ensures) ∙ c .before .if1 .taken)),
+      table-kept (start .args .launch) (start .args .table) (c .declined .result) (lent start) (ap (λ (p : Planned). eqb (p .number) 0) (c .declined .ensures)),
+    )
+
+cast-count : tie.Need-cast-count
+cast-count c = search needs
 
 keys-by-requires : tie.Need-keys-by-requires
 keys-by-requires c κs = search needs
 
 jobs-last-first-requires : tie.Need-jobs-last-first-requires
 jobs-last-first-requires c κs =
-    let pre = c .before .before .before .before .before .before .pre in
-    (pre .0, rw (sym (pre .1) ∙ c .before .if1 .taken) (c .keys-by .ensures))
+    let pre = c .before .before .before .before .before .before .before .before .before .pre in
+    (pre .0, (low (c .before .before), rw (sym (pre .1) ∙ c .before .if2 .taken) (c .keys-by .ensures)))
+
+-- the array holds the table's jobs
+held-nested : (c : tie.After-jobs-last-first) → HeldJobs true (c .jobs-last-first .result) (c .before .before .before .before .before .before .before .before .before .before .args .table .count)
+held-nested c =
+    let start = c .before .before .before .before .before .before .before .before .before .before in
+    rw (sym (start .pre .1) ∙ c .before .before .if2 .taken) at (held-table (start .args .launch) (start .args .table) (low (c .before .before .before)) (start .pre .0) (c .jobs-last-first .result) (c .jobs-last-first .ensures))
 
 plan-nested-requires : tie.Need-plan-nested-requires
-plan-nested-requires c κs =
-    let pre = c .before .before .before .before .before .before .before .before .before .before .before .pre in
-    (pre .0, (sym (pre .1) ∙ c .before .before .before .before .before .before .if1 .taken, c .before .before .before .before .jobs-last-first .ensures))
+plan-nested-requires c κs = held-nested (c .before .before .before .before)
 
 same-length : tie.Need-same-length
 same-length c = search needs
@@ -29,21 +73,34 @@ same-length-3 c = search needs
 same-length-4 : tie.Need-same-length-4
 same-length-4 c = search needs
 
-returns : tie.Need-returns
-returns c = search needs
+returns-2 : tie.Need-returns-2
+returns-2 c =
+    let made = c .before .before .before .before .before .before .before .before in
+    let jobs = made .before .before .before .before .before in
+    let start = jobs .before .before .before .before .before .before .before .before .before .before in
+    let is = sym (start .pre .1) ∙ jobs .before .before .if2 .taken in (
+      made .plan-nested .ensures .0
+          ∙ reply-of-jobs (start .args .launch) (start .args .table) true is _ (jobs .jobs-last-first .ensures) (accepted (jobs .before .before .before .before)) (lent start),
+      made .plan-nested .ensures .1
+          ∙ lists-of-jobs (start .args .launch) (start .args .table) true is _ (jobs .jobs-last-first .ensures) (made .plan-nested .result) (lent start),
+    )
 
 keys-by-requires-2 : tie.Need-keys-by-requires-2
 keys-by-requires-2 c κs = search needs
 
 jobs-last-first-requires-2 : tie.Need-jobs-last-first-requires-2
 jobs-last-first-requires-2 c κs =
-    let pre = c .before .before .before .before .before .before .pre in
-    (pre .0, rw (sym (pre .1) ∙ c .before .if1 .left) (c .keys-by2 .ensures))
+    let pre = c .before .before .before .before .before .before .before .before .before .pre in
+    (pre .0, (low (c .before .before), rw (sym (pre .1) ∙ c .before .if2 .left) (c .keys-by2 .ensures)))
+
+-- the array holds the table's jobs
+held-similar : (c : tie.After-jobs-last-first2) → HeldJobs false (c .jobs-last-first2 .result) (c .before .before .before .before .before .before .before .before .before .before .args .table .count)
+held-similar c =
+    let start = c .before .before .before .before .before .before .before .before .before .before in
+    rw (sym (start .pre .1) ∙ c .before .before .if2 .left) at (held-table (start .args .launch) (start .args .table) (low (c .before .before .before)) (start .pre .0) (c .jobs-last-first2 .result) (c .jobs-last-first2 .ensures))
 
 plan-similar-requires : tie.Need-plan-similar-requires
-plan-similar-requires c κs =
-    let pre = c .before .before .before .before .before .before .before .before .before .before .before .pre in
-    (pre .0, (sym (pre .1) ∙ c .before .before .before .before .before .before .if1 .left, c .before .before .before .before .jobs-last-first2 .ensures))
+plan-similar-requires c κs = held-similar (c .before .before .before .before)
 
 same-length-5 : tie.Need-same-length-5
 same-length-5 c = search needs
@@ -57,13 +114,26 @@ same-length-7 c = search needs
 same-length-8 : tie.Need-same-length-8
 same-length-8 c = search needs
 
-returns-2 : tie.Need-returns-2
-returns-2 c = search needs
+returns-3 : tie.Need-returns-3
+returns-3 c =
+    let made = c .before .before .before .before .before .before .before .before in
+    let jobs = made .before .before .before .before .before in
+    let start = jobs .before .before .before .before .before .before .before .before .before .before in
+    let is = sym (start .pre .1) ∙ jobs .before .before .if2 .left in (
+      made .plan-similar .ensures .0
+          ∙ reply-of-jobs (start .args .launch) (start .args .table) false is _ (jobs .jobs-last-first2 .ensures) (accepted (jobs .before .before .before .before)) (lent start),
+      made .plan-similar .ensures .1
+          ∙ lists-of-jobs (start .args .launch) (start .args .table) false is _ (jobs .jobs-last-first2 .ensures) (made .plan-similar .result) (lent start),
+    )
 
 pub plan-table-spec : {M : Type 1} → statement M
 plan-table-spec =
     tie.close
     (tie.spec
+    bad-launch-requires
+    declined-requires
+    returns
+    cast-count
     keys-by-requires
     jobs-last-first-requires
     plan-nested-requires
@@ -71,7 +141,7 @@ plan-table-spec =
     same-length-2
     same-length-3
     same-length-4
-    returns
+    returns-2
     keys-by-requires-2
     jobs-last-first-requires-2
     plan-similar-requires
@@ -79,4 +149,4 @@ plan-table-spec =
     same-length-6
     same-length-7
     same-length-8
-    returns-2)
+    returns-3)

@@ -1,0 +1,51 @@
+-- What a launch tick does to a plan: document 02, 'Wall clock in the plan', as clauses of the plan call.
+use Prim.Native.Nat.{ℕ}
+use mathlib.Core.Path.{_≡_}
+use mathlib.Core.List.{List, map}
+use mathlib.Core.Bool.{false}
+use Rattle.base.specs.Tests.{pick}
+use Rattle.clock.specs.Clock.{badLaunch}
+use Rattle.table.specs.declared.Table.{Table}
+use Rattle.table.specs.Kinds.{isNested}
+use Rattle.table.specs.Answers.{numberOf, placeOf, isAccepted}
+use Rattle.table.specs.Reading.{tableIn, readAnswer}
+use Rattle.schedule.specs.declared.Job.{Job}
+use Rattle.schedule.specs.Shifting.{laterRuns}
+use Rattle.schedule.specs.Earlier.{earlierJobAt}
+use Rattle.orders.specs.KindOrder.{orderLastFirst}
+use Rattle.plans.specs.declared.Planned.{Planned}
+use Rattle.plans.specs.Planning.{LentLists, planDeclined, replyBy, afterBy, planReply, listsAfter}
+use Rattle.plans.specs.Demands.{runsIn}
+
+-- 'With launch 0 every earlier answer holds.' The earlier answers are those without a launch tick.
+
+-- the jobs of a table, in the order of its kind, last first
+unfoldable pub earlierJobs : Table → List Job
+earlierJobs t = map (earlierJobAt t) (orderLastFirst t)
+
+-- the reply of planning: reading's refusals, then 8 and 9
+unfoldable pub earlierReply : List ℕ → LentLists → Planned
+earlierReply file lists =
+    pick (isAccepted (readAnswer file)) (replyBy (isNested (tableIn file)) (tableIn file .count) (earlierJobs (tableIn file)) lists)
+    (planDeclined (numberOf (readAnswer file)) (placeOf (readAnswer file)))
+
+-- what the lent lists hold afterwards
+unfoldable pub earlierLists : List ℕ → Planned → LentLists → LentLists
+earlierLists file reply lists = afterBy (isNested (tableIn file)) (tableIn file .count) (earlierJobs (tableIn file)) reply lists
+
+-- a call with launch 0 replies and leaves in the lists what it did without a launch tick
+pub record SameAsEarlier (file : List ℕ) (reply : Planned) (before after : LentLists) : Type 0 where
+  pub reply-is : reply ≡ earlierReply file before
+  pub lists-are : after ≡ earlierLists file reply before
+
+abbrev pub EarlierAtZero : ℕ → List ℕ → Planned → LentLists → LentLists → Type 0
+EarlierAtZero launch file reply before after = launch ≡ 0 → SameAsEarlier file reply before after
+
+-- 'The kept list is the same for every accepted launch tick, and each run lies later by it than with launch 0.' The whole reply is the same, refusals too.
+pub record LaterThanAtZero (launch : ℕ) (file : List ℕ) (reply : Planned) (before after : LentLists) : Type 0 where
+  pub reply-is : reply ≡ planReply 0 file before
+  pub marks-are : after .marks ≡ listsAfter 0 (tableIn file) reply before .marks
+  pub runs-later : reply .number ≡ 0 → runsIn reply after ≡ laterRuns launch (runsIn reply (listsAfter 0 (tableIn file) reply before))
+
+abbrev pub LaterByLaunch : ℕ → List ℕ → Planned → LentLists → LentLists → Type 0
+LaterByLaunch launch file reply before after = badLaunch launch ≡ false → LaterThanAtZero launch file reply before after
