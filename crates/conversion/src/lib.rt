@@ -7,7 +7,7 @@ ghost use Rattle.base.specs.Limits.{maxTasks};
 ghost use Rattle.base.specs.Places.{places};
 ghost use Rattle.lines.specs.Putting.{Put};
 ghost use Rattle.lines.specs.Text.{decimal, line};
-ghost use Rattle.table.specs.Layout.{Holds};
+ghost use Rattle.table.specs.Layout.{heldBytes, Holds};
 ghost use Rattle.table.specs.Tables.{taskAt};
 ghost use Rattle.table_text.specs.TableText.{headLine, taskLine, taskLines, tableText};
 ghost use Rattle.table_text.specs.Conversions.{textReply, textOver, ShowsText, ShownAgain, fileReply, fileOver};
@@ -113,9 +113,10 @@ pub fn to_text_held(
     out: &mut [u8; MAX_TABLE_TEXT],
 ) -> Written
     ensures shown { λ r. ⌜ ((input : List ℕ) → Holds held filled input → ShowsText input (now (out .entry)) r (now (out .exit))) ⌝ }
+    ensures size { λ r. ⌜ length held ≡ heldBytes ⌝ }
     ensures within { λ r. ⌜ r .bytes ≤ length (now (out .exit)) ⌝ }
 {
-    let end = table::held_of(filled);
+    let end = table::held_of(filled, HELD_BYTES);
     to_text(&held[..end], out)
 }
 

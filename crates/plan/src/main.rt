@@ -1,4 +1,4 @@
-// The program: plans the table file on standard input, and prints its plan or its refusal on standard output.
+// The program: plans the table file that follows a launch tick on standard input, and prints its plan or its refusal on standard output.
 use libc::STDIN_FILENO;
 use libc::STDOUT_FILENO;
 

@@ -1,2 +1,4 @@
 pub mod LineLaws
 pub mod TextLaws
+pub mod InputLaws
+pub mod LaunchLaws

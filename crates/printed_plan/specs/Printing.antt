@@ -1,6 +1,5 @@
 -- The printed plan, as the bytes of its text: document 01, 'The printed plan'.
 use Prim.Native.Nat.{ℕ, suc, _+_, _*_}
-use mathlib.Core.Path.{_≡_}
 use mathlib.Core.List.{List, [], _∷_, _++_}
 use lib.Dec.{ltb, eqb}
 use lib.ListN.{length}
@@ -47,23 +46,23 @@ runLines (run ∷ runs) = runLine run ++ runLines runs
 unfoldable pub planLines : ℕ → ℕ → ℕ → List ℕ → List Run → List ℕ
 planLines tasks kept discarded marks runs = line planWord (tasks ∷ kept ∷ discarded ∷ []) ++ dropLines marks ++ runLines runs
 
--- the text of a table's plan
-unfoldable pub planText : Table → List ℕ
-planText t = planLines (t .count) (planOf t .kept) (planOf t .discarded) (planMarks t) (planRuns t)
+-- the text of a table's plan at a launch tick
+unfoldable pub planText : ℕ → Table → List ℕ
+planText launch t = planLines (t .count) (planOf launch t .kept) (planOf launch t .discarded) (planMarks launch t) (planRuns launch t)
 
 -- the text of a refusal: its number and place
 unfoldable pub refusalText : ℕ → ℕ → List ℕ
 refusalText number place = line refusedWord (number ∷ place ∷ [])
 
--- the reply of planning into lists that are long enough for every table
-unfoldable pub longReply : List ℕ → Planned
-longReply file = planReply file (listsFor maxTasks)
+-- the reply of planning a file at a launch tick, into lists that are long enough for every table
+unfoldable pub longReply : ℕ → List ℕ → Planned
+longReply launch file = planReply launch file (listsFor maxTasks)
 
--- the text printed of a file: its plan or its refusal
-unfoldable pub printed : List ℕ → List ℕ
-printed file =
-    pick (eqb (longReply file .number) 0) (planText (tableIn file))
-    (refusalText (longReply file .number) (longReply file .place))
+-- the text printed of a file at a launch tick: its plan or its refusal
+unfoldable pub printed : ℕ → List ℕ → List ℕ
+printed launch file =
+    pick (eqb (longReply launch file .number) 0) (planText launch (tableIn file))
+    (refusalText (longReply launch file .number) (longReply launch file .place))
 
 -- no line is longer: a word of at most 7 bytes, 3 numbers, each with a space, and a newline
 abbrev pub maxLine : ℕ
@@ -73,15 +72,10 @@ maxLine = 7 + 3 * maxField + 1
 abbrev pub maxText : ℕ
 maxText = (1 + maxTasks + maxPlanRuns) * maxLine
 
--- how many bytes are printed of a file into a list of `room` places: none into one that is shorter than the longest text
+-- how many bytes of a text are printed into a list of `room` places: none into one that is shorter than the longest text
 unfoldable pub printLength : List ℕ → ℕ → ℕ
-printLength file room = pick (ltb room maxText) 0 (length (printed file))
+printLength text room = pick (ltb room maxText) 0 (length text)
 
 -- what a lent list holds after that
 unfoldable pub printedOver : List ℕ → List ℕ → List ℕ
-printedOver file out = pick (ltb (length out) maxText) out (writtenFront (printed file) out)
-
--- the text printed of an input stands at the front of a lent list, and has so many bytes
-pub record Prints (input old : List ℕ) (bytes : ℕ) (new : List ℕ) : Type 0 where
-  pub bytes-are : bytes ≡ length (printed input)
-  pub content : new ≡ writtenFront (printed input) old
+printedOver text out = pick (ltb (length out) maxText) out (writtenFront text out)

@@ -1,7 +1,7 @@
 // The programs, each as one function over file descriptors. The sizes of what is held come with the types of the functions that are called: a program
 // can't choose them.
+use report::INPUT_BYTES;
 use report::MAX_TEXT;
-use table::HELD_BYTES;
 
 mod from_text;
 mod to_text;
@@ -9,9 +9,9 @@ mod to_text;
 pub use from_text::table_from_text;
 pub use to_text::table_to_text;
 
-// Plans the table file of an input, and prints its plan or its refusal.
+// Plans the table file of an input at the launch tick before it, and prints its plan or its refusal.
 pub fn plan(input: i32, output: i32) {
-    let mut held = [0u8; HELD_BYTES];
+    let mut held = [0u8; INPUT_BYTES];
     let filled = io::read_full(input, &mut held);
     let mut text = [0u8; MAX_TEXT];
     let printed = report::print_held(held, filled, &mut text);

@@ -1,13 +1,14 @@
-// The printed plan: the text of a file's plan or refusal, as bytes in a lent list.
+// The printed plan: the text of a file's plan or refusal at a launch tick, as bytes in a lent list.
 ghost use mathlib.Core.Path.{_≡_};
 ghost use mathlib.Core.List.{List, [], _∷_};
-ghost use Prim.Native.Nat.{ℕ, _+_, _≤_};
+ghost use Prim.Native.Nat.{ℕ, _+_, _*_, _≤_};
 ghost use lib.ListN.{length};
-ghost use Rattle.table.specs.Layout.{Holds};
+ghost use Rattle.table.specs.Layout.{HoldsFirst};
 ghost use Rattle.schedule.specs.Runs.{runsOf};
 ghost use Rattle.lines.specs.Putting.{Put};
 ghost use Rattle.lines.specs.Text.{line};
-ghost use Rattle.printed_plan.specs.Printing.{dropWord, dropLines, runWord, runLines, planLines, refusalText, printLength, printedOver, Prints};
+ghost use Rattle.printed_plan.specs.Printing.{dropWord, dropLines, runWord, runLines, planLines, refusalText, printed, printLength, printedOver};
+ghost use Rattle.printed_plan.specs.ProgramInput.{launchBytes, inputBytes, launchIn, printedInput, Prints};
 use base::MAX_PLAN_RUNS;
 use base::MAX_TASKS;
 use lines::MAX_FIELD;
@@ -18,6 +19,12 @@ const MAX_LINE: usize = 7 + 3 * MAX_FIELD + 1;
 
 // No text is longer: the PLAN line, a DROP line for each task and a RUN line for each run; definitions say maxText.
 pub const MAX_TEXT: usize = (1 + MAX_TASKS + MAX_PLAN_RUNS) * MAX_LINE;
+
+// The bytes of a launch tick before a table file; definitions say launchBytes.
+pub const LAUNCH_BYTES: usize = 4;
+
+// What the program holds of its input: one byte more than the longest one that it accepts has. Definitions say inputBytes.
+pub const INPUT_BYTES: usize = LAUNCH_BYTES + HELD_BYTES;
 
 // The DROP line of a position.
 fn put_drop(out: &mut [u8], at: usize, position: usize) -> usize
@@ -99,11 +106,11 @@ fn put_refusal(out: &mut [u8], number: u32, place: usize) -> usize
     lines::put_line(out, 0, b"REFUSED", &numbers)
 }
 
-// Plans a file and prints its plan or its refusal at the front of a lent list; the number of bytes printed. A list shorter than MAX_TEXT is left
-// as it is, and the reply is 0.
-pub fn print(file: &[u8], out: &mut [u8]) -> usize
-    ensures length_is { λ r. ⌜ r ≡ printLength (now (file .entry)) (length (now (out .entry))) ⌝ }
-    ensures content { λ r. ⌜ now (out .exit) ≡ printedOver (now (file .entry)) (now (out .entry)) ⌝ }
+// Plans a file at a launch tick and prints its plan or its refusal at the front of a lent list; the number of bytes printed. A list shorter than MAX_TEXT
+// is left as it is, and the reply is 0.
+pub fn print(file: &[u8], launch: u32, out: &mut [u8]) -> usize
+    ensures length_is { λ r. ⌜ r ≡ printLength (printed launch (now (file .entry))) (length (now (out .entry))) ⌝ }
+    ensures content { λ r. ⌜ now (out .exit) ≡ printedOver (printed launch (now (file .entry))) (now (out .entry)) ⌝ }
 {
     if out.len() < MAX_TEXT {
         return 0;
@@ -112,7 +119,14 @@ pub fn print(file: &[u8], out: &mut [u8]) -> usize
     let mut starts = [0u32; MAX_PLAN_RUNS];
     let mut ends = [0u32; MAX_PLAN_RUNS];
     let mut tasks = [0u32; MAX_PLAN_RUNS];
-    let planned = planner::plan_counted(file, &mut marks, &mut starts, &mut ends, &mut tasks);
+    let planned = planner::plan_counted(
+        file,
+        launch,
+        &mut marks,
+        &mut starts,
+        &mut ends,
+        &mut tasks,
+    );
     let reply = planned.reply;
     if reply.number != 0 {
         return put_refusal(out, reply.number, reply.place);
@@ -132,12 +146,44 @@ pub fn print(file: &[u8], out: &mut [u8]) -> usize
     )
 }
 
-// Prints what an input gets. The first `filled` places of `held` are its first bytes: the whole input, or as many as there are places. They settle what is
-// printed.
-pub fn print_held(held: [u8; HELD_BYTES], filled: usize, text: &mut [u8; MAX_TEXT]) -> usize
-    ensures printed { λ r. ⌜ ((input : List ℕ) → Holds held filled input → Prints input (now (text .entry)) r (now (text .exit))) ⌝ }
+// The number of four bytes, high byte first.
+fn four_bytes(first: u8, second: u8, third: u8, last: u8) -> u32
+    ensures { λ r. ⌜ r ≡ ((first * 256 + second) * 256 + third) * 256 + last ⌝ }
+{
+    ((first as u32 * 256 + second as u32) * 256 + third as u32) * 256 + last as u32
+}
+
+// The launch tick at the front of an input.
+fn launch_in(input: &[u8]) -> u32
+    requires { ⌜ launchBytes ≤ length (now input) ⌝ }
+    ensures { λ r. ⌜ r ≡ launchIn (now (input .entry)) ⌝ }
+{
+    four_bytes(input[0], input[1], input[2], input[3])
+}
+
+// Prints what an input gets: that of the file behind its launch tick, or, where it is too short for one, refusal 1 with the input's length. A list shorter
+// than MAX_TEXT is left as it is, and the reply is 0.
+pub fn print_input(input: &[u8], out: &mut [u8]) -> usize
+    ensures length_is { λ r. ⌜ r ≡ printLength (printedInput (now (input .entry))) (length (now (out .entry))) ⌝ }
+    ensures content { λ r. ⌜ now (out .exit) ≡ printedOver (printedInput (now (input .entry))) (now (out .entry)) ⌝ }
+{
+    if out.len() < MAX_TEXT {
+        return 0;
+    }
+    if input.len() < LAUNCH_BYTES {
+        return put_refusal(out, 1, input.len());
+    }
+    let launch = launch_in(input);
+    print(&input[LAUNCH_BYTES..], launch, out)
+}
+
+// The same of an input that is held. The first `filled` places of `held` are its first bytes: the whole input, or as many as there are places. They settle
+// what is printed.
+pub fn print_held(held: [u8; INPUT_BYTES], filled: usize, text: &mut [u8; MAX_TEXT]) -> usize
+    ensures printed { λ r. ⌜ ((input : List ℕ) → HoldsFirst inputBytes held filled input → Prints input (now (text .entry)) r (now (text .exit))) ⌝ }
+    ensures size { λ r. ⌜ length held ≡ inputBytes ⌝ }
     ensures within { λ r. ⌜ r ≤ length (now (text .exit)) ⌝ }
 {
-    let end = table::held_of(filled);
-    print(&held[..end], text)
+    let end = table::held_of(filled, INPUT_BYTES);
+    print_input(&held[..end], text)
 }

@@ -11,7 +11,7 @@ ghost use Rattle.table.specs.Answers.{numberOf, placeOf, isAccepted, dec
 ghost use Rattle.table.specs.Windows.{reversed, contains, nested};
 ghost use Rattle.table.specs.Kinds.{acceptedNested, failsEarlier, forwardAnswer, kindAnswer, nestingAnswer, ofNeitherKind, pairwise, windowAnswer, windowsAnswer};
 ghost use Rattle.table.specs.WindowColumns.{windowAt, Mirrored};
-ghost use Rattle.table.specs.Layout.{badCount, badPeriod, widestRow, rowsLength, fileLength, heldBytes};
+ghost use Rattle.table.specs.Layout.{badCount, badPeriod, widestRow, rowsLength, fileLength};
 use base::MAX_PERIOD;
 use base::MAX_TASKS;
 
@@ -32,15 +32,15 @@ pub const TASK_WIDTH: usize = 2 * FRAME_WIDTH + 2 * TICKS_WIDTH;
 // The most bytes of a file: those of as many tasks as a table has places. Definitions say maxFile.
 pub const MAX_FILE: usize = (HEADER_WIDTH + TASK_WIDTH * MAX_TASKS + 7) / 8;
 
-// What a program holds of its input: one byte more than the longest file has. Definitions say heldBytes.
+// What is held of a file: one byte more than the longest file has. Definitions say heldBytes.
 pub const HELD_BYTES: usize = MAX_FILE + 1;
 
-// How many bytes of an input of some length are held.
-pub fn held_of(length: usize) -> usize
-    ensures { λ r. ⌜ r ≡ min length heldBytes ⌝ }
+// How many bytes of an input of some length are held, where no more than `size` are.
+pub fn held_of(length: usize, size: usize) -> usize
+    ensures { λ r. ⌜ r ≡ min length size ⌝ }
 {
-    if HELD_BYTES < length {
-        return HELD_BYTES;
+    if size < length {
+        return size;
     }
     length
 }

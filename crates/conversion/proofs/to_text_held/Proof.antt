@@ -16,7 +16,6 @@ held-of-requires : tie.Need-held-of-requires
 held-of-requires c κs = search needs
 
 array-share-prefix-held : tie.Need-array-share-prefix-held
-unfolding fileLength bytesFor
 array-share-prefix-held c = omega arith
 
 slice-aggregate-to-text : tie.Need-slice-aggregate-to-text
@@ -27,18 +26,18 @@ to-text-requires c κs = search needs
 
 -- what is shown is the part that the input fills
 part-is : (c : tie.After-held-of) → take (c .held-of .result) (c .before .args .t1) ≡ take (c .before .args .filled) (c .before .args .t1)
-unfolding fileLength bytesFor
 part-is c =
-    ap (λ (n : ℕ). take n (c .before .args .t1)) (c .held-of .ensures) ∙ held-taken (c .before .args .t1) (c .before .args .filled) (omega arith)
+    ap (λ (n : ℕ). take n (c .before .args .t1)) (c .held-of .ensures) ∙ held-taken _ (c .before .args .t1) (c .before .args .filled) (omega arith)
 
 returns : tie.Need-returns
+unfolding fileLength bytesFor
 returns c =
     let part = c .before .before .before in
     let start = part .before in (
       λ input h.
           held-shown (start .args .t1) (start .args .filled) input _ _ _ (rw (part-is part) at (c .to-text .ensures .0))
           (rw (part-is part) at (c .to-text .ensures .1 .0)) (rw (part-is part) at (c .to-text .ensures .1 .1)) h,
-      omega (arith, text-fits _ _ _ (c .to-text .ensures .0)),
+      (omega arith, omega (arith, text-fits _ _ _ (c .to-text .ensures .0))),
     )
 
 pub to-text-held-spec : {M : Type 1} → statement M

@@ -1,18 +1,17 @@
 -- `report::print` meets its contract: the lists lent for planning are long enough for every table, and what they hold after a reply of 0 is printed.
 use Prim.Native.Nat.{_≤_}
-use mathlib.Core.Path.{_≡_, refl, sym, _∙_}
+use mathlib.Core.Path.{_≡_, sym, _∙_}
 use mathlib.Core.List.{List}
 use native.Mathlib.Omega.{arith}
 use lib.ListN.{length}
 use lib.Seq.{length-take-le}
-use borrow.Author.Tests.{lt-ltb}
 use borrow.Author.Needs.{needs}
 use Rattle.table.specs.Reading.{tableIn}
 use Rattle.base.specs.Limits.{maxTasks, maxPlanRuns}
 use Rattle.plans.specs.Planning.{LentLists, listsFor}
 use Rattle.plans.proofs.ReplyLaws.{Replied}
-use Rattle.printed_plan.specs.Printing.{longReply, maxText, printLength, printedOver}
-use Rattle.printed_plan.proofs.TextLaws.{refusal-length, printed-length, printed-refused, count-read, count-fits, runs-fit, text-is, print-clauses}
+use Rattle.printed_plan.specs.Printing.{longReply}
+use Rattle.printed_plan.proofs.TextLaws.{refusal-length, printed-length, printed-refused, count-read, count-fits, runs-fit, text-is, print-clauses, print-none}
 use Rattle.report.proofs.print.Statement.{statement}
 use Rattle.report.proofs.print.Tie as tie
 
@@ -30,34 +29,34 @@ old = listsFor maxTasks
 abbrev new : tie.After-plan-counted → LentLists
 new c =
     record {
-      marks = c .plan-counted .last .1 .0;
-      starts = c .plan-counted .last .1 .1 .0;
-      ends = c .plan-counted .last .1 .1 .1 .0;
-      tasks = c .plan-counted .last .1 .1 .1 .1 .0;
+      marks = c .plan-counted .last .1 .1 .0;
+      starts = c .plan-counted .last .1 .1 .1 .0;
+      ends = c .plan-counted .last .1 .1 .1 .1 .0;
+      tasks = c .plan-counted .last .1 .1 .1 .1 .1 .0;
     }
 
-replied : (c : tie.After-plan-counted) → Replied (start c .args .file .now) (c .plan-counted .result .reply) old (new c)
+replied : (c : tie.After-plan-counted) → Replied (start c .args .launch) (start c .args .file .now) (c .plan-counted .result .reply) old (new c)
 replied c =
     let e = c .plan-counted .ensures in
     record { reply-is = e .1 .0; lists-are = e .1 .1 }
 
-long : (c : tie.After-plan-counted) → c .plan-counted .result .reply ≡ longReply (start c .args .file .now)
+long : (c : tie.After-plan-counted) → c .plan-counted .result .reply ≡ longReply (start c .args .launch) (start c .args .file .now)
 unfolding longReply
 long c = c .plan-counted .ensures .1 .0
 
-lengths : (c : tie.After-plan-counted) → (length (new c .marks) ≡ maxTasks) × (length (new c .starts) ≡ maxPlanRuns) × (length (new c .ends) ≡ maxPlanRuns) × (length (new c .tasks) ≡ maxPlanRuns)
+lengths : (c : tie.After-plan-counted)
+    → (length (new c .marks) ≡ maxTasks) × (length (new c .starts) ≡ maxPlanRuns) × (length (new c .ends) ≡ maxPlanRuns) × (length (new c .tasks) ≡ maxPlanRuns)
 lengths c = omega (arith, c .plan-counted .kept)
 
 -- after a reply of 0
 counted : (c : tie.Else2) → planned (c .before) .plan-counted .result .count ≡ tableIn (start (planned (c .before)) .args .file .now) .count
-counted c = count-read _ _ _ _ (replied (planned (c .before))) (c .if2 .left) _ (planned (c .before) .plan-counted .ensures .0)
+counted c = count-read _ _ _ _ _ (replied (planned (c .before))) (c .if2 .left) _ (planned (c .before) .plan-counted .ensures .0)
 
 few : (c : tie.Else2) → planned (c .before) .plan-counted .result .reply .runs ≤ maxPlanRuns
-few c = runs-fit _ _ _ _ (replied (planned (c .before))) (c .if2 .left)
+few c = runs-fit _ _ _ _ _ (replied (planned (c .before))) (c .if2 .left)
 
 returns : tie.Need-returns
-unfolding printLength printedOver
-returns c = rw (lt-ltb (length (c .before .before .before .args .out .now)) maxText (c .if1 .taken)) (refl, refl)
+returns c = print-none _ _ (c .if1 .taken)
 
 slice-aggregate-plan-counted : tie.Need-slice-aggregate-plan-counted
 slice-aggregate-plan-counted c = search needs
@@ -77,7 +76,8 @@ plan-counted-requires c κs = search needs
 put-refusal-requires : tie.Need-put-refusal-requires
 put-refusal-requires c κs =
     let plan = planned (c .before .before) in
-    omega (arith, refusal-length (plan .plan-counted .result .reply .number) (plan .plan-counted .result .reply .place), plan .before .before .before .before .before .if1 .left)
+    let reply = plan .plan-counted .result .reply in
+    omega (arith, refusal-length (reply .number) (reply .place), plan .before .before .before .before .before .if1 .left)
 
 same-length : tie.Need-same-length
 same-length c = search needs
@@ -86,7 +86,8 @@ returns-2 : tie.Need-returns-2
 returns-2 c =
     let refused = c .before .before .before .before in
     let plan = planned (refused .before) in
-    print-clauses _ _ _ _ _ (plan .before .before .before .before .before .if1 .left) (printed-refused _ (plan .plan-counted .result .reply) (long plan) (refused .if2 .taken)) (c .before .before .put-refusal .ensures)
+    print-clauses _ _ _ _ _ (plan .before .before .before .before .before .if1 .left)
+    (printed-refused _ _ (plan .plan-counted .result .reply) (long plan) (refused .if2 .taken)) (c .before .before .put-refusal .ensures)
 
 cast-places : tie.Need-cast-places
 cast-places c = search needs
@@ -94,7 +95,7 @@ cast-places c = search needs
 array-share-prefix-marks : tie.Need-array-share-prefix-marks
 array-share-prefix-marks c =
     let plan = planned (c .before .before) in
-    omega (arith, counted (c .before), lengths plan, count-fits _ _ _ _ (replied plan) (c .before .if2 .left))
+    omega (arith, counted (c .before), lengths plan, count-fits _ _ _ _ _ (replied plan) (c .before .if2 .left))
 
 slice-aggregate-put-plan : tie.Need-slice-aggregate-put-plan
 slice-aggregate-put-plan c = sym (length-take-le _ _ (array-share-prefix-marks (c .before)))
@@ -125,7 +126,8 @@ put-plan-requires c κs =
         sym (slice-aggregate-put-plan-3 (c .before)) ∙ slice-aggregate-put-plan-2 (c .before .before),
         sym (slice-aggregate-put-plan-4 c) ∙ slice-aggregate-put-plan-2 (c .before .before),
       ),
-      rw (text-is _ _ _ _ (replied plan) (taken .if2 .left) _ (counted taken) (long plan)) (omega (arith, printed-length (start plan .args .file .now), plan .before .before .before .before .before .if1 .left)),
+      rw (text-is _ _ _ _ _ (replied plan) (taken .if2 .left) _ (counted taken) (long plan))
+          (omega (arith, printed-length (start plan .args .launch) (start plan .args .file .now), plan .before .before .before .before .before .if1 .left)),
     )
 
 same-length-2 : tie.Need-same-length-2
@@ -135,7 +137,8 @@ returns-3 : tie.Need-returns-3
 returns-3 c =
     let taken = c .before .before .before .before .before .before .before .before in
     let plan = planned (taken .before) in
-    print-clauses _ _ _ _ _ (plan .before .before .before .before .before .if1 .left) (text-is _ _ _ _ (replied plan) (taken .if2 .left) _ (counted taken) (long plan)) (c .before .before .put-plan .ensures)
+    print-clauses _ _ _ _ _ (plan .before .before .before .before .before .if1 .left)
+    (text-is _ _ _ _ _ (replied plan) (taken .if2 .left) _ (counted taken) (long plan)) (c .before .before .put-plan .ensures)
 
 pub print-spec : {M : Type 1} → statement M
 print-spec =

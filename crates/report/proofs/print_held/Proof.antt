@@ -8,7 +8,8 @@ use lib.Seq.{length-take-le}
 use Rattle.bits.specs.Bits.{bytesFor}
 use Rattle.table.specs.Layout.{fileLength}
 use Rattle.table.proofs.PrefixLaws.{held-taken}
-use Rattle.printed_plan.proofs.TextLaws.{held-printed, print-most}
+use Rattle.printed_plan.proofs.TextLaws.{print-most}
+use Rattle.printed_plan.proofs.InputLaws.{input-length, held-printed}
 use Rattle.report.proofs.print_held.Statement.{statement}
 use Rattle.report.proofs.print_held.Tie as tie
 
@@ -16,31 +17,30 @@ held-of-requires : tie.Need-held-of-requires
 held-of-requires c κs = search needs
 
 array-share-prefix-held : tie.Need-array-share-prefix-held
-unfolding fileLength bytesFor
 array-share-prefix-held c = omega arith
 
-slice-aggregate-print : tie.Need-slice-aggregate-print
-slice-aggregate-print c = sym (length-take-le _ _ (array-share-prefix-held (c .before)))
+slice-aggregate-print-input : tie.Need-slice-aggregate-print-input
+slice-aggregate-print-input c = sym (length-take-le _ _ (array-share-prefix-held (c .before)))
 
-print-requires : tie.Need-print-requires
-print-requires c κs = search needs
+print-input-requires : tie.Need-print-input-requires
+print-input-requires c κs = search needs
 
 -- what is printed is the part that the input fills
 part-is : (c : tie.After-held-of) → take (c .held-of .result) (c .before .args .t1) ≡ take (c .before .args .filled) (c .before .args .t1)
-unfolding fileLength bytesFor
 part-is c =
-    ap (λ (n : ℕ). take n (c .before .args .t1)) (c .held-of .ensures) ∙ held-taken (c .before .args .t1) (c .before .args .filled) (omega arith)
+    ap (λ (n : ℕ). take n (c .before .args .t1)) (c .held-of .ensures) ∙ held-taken _ (c .before .args .t1) (c .before .args .filled) (omega arith)
 
 returns : tie.Need-returns
+unfolding fileLength bytesFor
 returns c =
     let part = c .before .before .before in
     let start = part .before in (
       λ input h.
-          held-printed (start .args .t1) (start .args .filled) input _ _ _ (omega arith) (rw (part-is part) at (c .print .ensures .0))
-          (rw (part-is part) at (c .print .ensures .1)) h,
-      omega (arith, print-most _ _ _ (c .print .ensures .0)),
+          held-printed (start .args .t1) (start .args .filled) input _ _ _ (omega arith) (rw (part-is part) at (c .print-input .ensures .0))
+          (rw (part-is part) at (c .print-input .ensures .1)) h,
+      (omega arith, omega (arith, print-most _ _ _ (input-length _) (c .print-input .ensures .0))),
     )
 
 pub print-held-spec : {M : Type 1} → statement M
 print-held-spec =
-    tie.close (tie.spec held-of-requires array-share-prefix-held slice-aggregate-print print-requires returns)
+    tie.close (tie.spec held-of-requires array-share-prefix-held slice-aggregate-print-input print-input-requires returns)

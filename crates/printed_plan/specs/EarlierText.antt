@@ -1,0 +1,29 @@
+-- The text printed without a launch tick, as it was before it was introduced. The theorems say that with launch 0 the same is printed.
+use Prim.Native.Nat.{ℕ}
+use mathlib.Core.List.{List}
+use lib.Dec.{eqb}
+use Rattle.base.specs.Limits.{maxTasks}
+use Rattle.base.specs.Tests.{pick}
+use Rattle.table.specs.declared.Table.{Table}
+use Rattle.table.specs.Kinds.{isNested}
+use Rattle.table.specs.Reading.{tableIn}
+use Rattle.plans.specs.declared.Planned.{Planned}
+use Rattle.plans.specs.Planning.{marksBy, planRunsBy, madeBy, listsFor}
+use Rattle.plans.specs.Launch.{earlierJobs, earlierReply}
+use Rattle.printed_plan.specs.Printing.{planLines, refusalText}
+
+-- the text of a table's plan
+unfoldable pub earlierPlanText : Table → List ℕ
+earlierPlanText t =
+    planLines (t .count) (madeBy (isNested t) (earlierJobs t) .kept) (madeBy (isNested t) (earlierJobs t) .discarded)
+    (marksBy (isNested t) (t .count) (earlierJobs t)) (planRunsBy (isNested t) (earlierJobs t))
+
+-- the reply of planning into lists that are long enough for every table
+unfoldable pub earlierLong : List ℕ → Planned
+earlierLong file = earlierReply file (listsFor maxTasks)
+
+-- the text printed of a file: its plan or its refusal
+unfoldable pub earlierText : List ℕ → List ℕ
+earlierText file =
+    pick (eqb (earlierLong file .number) 0) (earlierPlanText (tableIn file))
+    (refusalText (earlierLong file .number) (earlierLong file .place))
