@@ -66,7 +66,7 @@ fn same_plan(
     let owners = small_tables::placed(tasks, family.row, nested, best.list);
     is_plan(reply, best.score, family.count)
         && list_of(marks) == best.list
-        && small_tables::same_runs(owners, reply.runs, starts, ends, run_tasks)
+        && small_tables::same_runs(owners, family.launch, reply.runs, starts, ends, run_tasks)
 }
 
 // The reply is what all runnings of a table of one of the kinds say, where they can be tried: 8 where there is none, at the first task that can't be met; else
@@ -102,16 +102,24 @@ fn same(
         && same_runnings(family, tasks, nested, reply)
 }
 
-// Plans the file of some tasks into lists of 4 marks and 7 runs, and compares.
+// Plans the file of some tasks at the family's launch tick into lists of 4 marks and 7 runs, and compares.
 fn planned(family: Family, tasks: [Task; PLACES], file: &[u8]) -> Outcome {
     let mut marks = [0u8; PLACES];
     let mut starts = [0u32; RUNS];
     let mut ends = [0u32; RUNS];
     let mut run_tasks = [0u32; RUNS];
-    let reply = planner::plan(file, &mut marks, &mut starts, &mut ends, &mut run_tasks);
+    let reply = planner::plan(
+        file,
+        family.launch,
+        &mut marks,
+        &mut starts,
+        &mut ends,
+        &mut run_tasks,
+    );
     let agrees = judges::agrees(
         reply,
         file,
+        family.launch,
         family.count % 5,
         &marks,
         &starts,
@@ -200,11 +208,12 @@ fn try_all(family: Family, tables: u32) -> [u64; COUNTS] {
     counts
 }
 
-// Prints the counts over so many tables.
-fn show(tables: u32, counts: [u64; COUNTS]) {
+// Prints the launch tick and the counts over so many tables.
+fn show(launch: u32, tables: u32, counts: [u64; COUNTS]) {
     cases::show(
-        b" # # # # # # # # # #\n",
+        b" # # # # # # # # # # #\n",
         &[
+            launch as u64,
             tables as u64,
             counts[0],
             counts[21],
@@ -219,10 +228,10 @@ fn show(tables: u32, counts: [u64; COUNTS]) {
     );
 }
 
-// A family: its tasks, p, q, the row of its ticks, the first of its windows and how many more there are, the most optional ticks, and the number of its
-// tables. Plans all its tables and prints the counts.
+// A family: its tasks, p, q, the row of its ticks, the first of its windows and how many more there are, the most optional ticks, the number of its
+// tables, and the launch tick. Plans all its tables and prints the counts.
 pub fn family(line: &[u8]) {
-    let mut numbers = [0u32; 8];
+    let mut numbers = [0u32; 9];
     cases::numbers(line, 1, &mut numbers);
     let family = Family {
         count: (numbers[0] % 5) as usize,
@@ -232,8 +241,9 @@ pub fn family(line: &[u8]) {
         first: numbers[4],
         more: numbers[5],
         optional: numbers[6],
+        launch: numbers[8],
     };
     let tables = numbers[7];
     cases::show_title(line);
-    show(tables, try_all(family, tables));
+    show(family.launch, tables, try_all(family, tables));
 }

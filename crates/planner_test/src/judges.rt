@@ -10,11 +10,12 @@ fn is_yes(verdict: Judged, reply: Planned) -> bool {
     verdict.yes && verdict.kept == reply.kept && verdict.discarded == reply.discarded
 }
 
-// The judge says yes to the part of the lists that was written: a mark for each of `count` tasks, and the runs. Where planning
-// refused there is nothing to judge, and no runs.
+// The judge says yes, at the launch tick of the plan, to the part of the lists that was written: a mark for each of `count` tasks, and the runs. Where
+// planning refused there is nothing to judge, and no runs.
 pub fn agrees(
     reply: Planned,
     file: &[u8],
+    launch: u32,
     count: usize,
     marks: &[u8],
     starts: &[u32],
@@ -34,6 +35,7 @@ pub fn agrees(
     is_yes(
         judging::judge(
             file,
+            launch,
             &marks[0..count],
             &starts[0..runs],
             &ends[0..runs],

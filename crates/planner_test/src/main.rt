@@ -1,12 +1,12 @@
 // Plans the sample flights, P1 to P12 of document 01, P9 with the lengths chosen in `samples`, and prints the plans; and plans all tables of small sizes and
 // compares each plan with the rules tried on everything. The cases are the lines of the file `stdin`, of which a line that starts with `#` is a comment.
 //
-// A sample has its number, and then P1 to P3 the release tick and the deadline tick; P4 to P11 the reply's number, place, kept, discarded and runs;
-// P12 the number, place and bytes. Below a plan stand the lists: at each place the mark, and the start, the end and the task of the run, 77 where
+// A sample, at a launch tick, has its number, and then P1 to P3 the release tick and the deadline tick; P4 to P11 the reply's number, place, kept,
+// discarded and runs; P12 the number, place and bytes. Below a plan stand the lists: at each place the mark, and the start, the end and the task of the run, 77 where
 // nothing was written.
 //
-// A line on small tables has the number of tasks and the period; then how many tables there are, how many were planned, how many of these are similar and
-// not nested, how many were refused by 7 and refused by 8; the sums of kept, discarded and runs; how many have another reply or plan than expected, and the
+// A line on small tables has the number of tasks and the period; then the launch tick at which they are planned, how many tables there are, how many were
+// planned, how many of these are similar and not nested, how many were refused by 7 and refused by 8; the sums of kept, discarded and runs; how many have another reply or plan than expected, and the
 // index of the first of them.
 //
 // The sizes. In all of them a task has 0 or 1 mandatory ticks.

@@ -9,15 +9,16 @@ const MARK: u8 = 77;
 
 const TICK: u32 = 77;
 
-// A sample's number and a frame: its release tick and its deadline tick with the period 1001/10.
+// A sample's number, a frame and a launch tick: its release tick and its deadline tick with the period 1001/10.
 pub fn clock(line: &[u8]) {
     let frame = cases::number(line, 2) % 131_072;
+    let launch = cases::number(line, 3) % 86_400_000;
     cases::show(
         b"P # # #\n",
         &[
             cases::number(line, 1) as u64,
-            clock::release_tick(frame, 1001, 10) as u64,
-            clock::deadline_tick(frame, 1001, 10) as u64,
+            clock::release_tick(launch, frame, 1001, 10) as u64,
+            clock::deadline_tick(launch, frame, 1001, 10) as u64,
         ],
     );
 }
@@ -66,8 +67,8 @@ fn show_verdict(number: u32, agrees: bool) {
     }
 }
 
-// Plans a file into lists of so many places, and prints these, the reply and the lists.
-fn plan_within(sample: u32, file: &[u8], places: [u32; 4]) {
+// Plans a file at a launch tick into lists of so many places, and prints these, the reply and the lists.
+fn plan_within(sample: u32, file: &[u8], launch: u32, places: [u32; 4]) {
     let a = (places[0] % 7) as usize;
     let b = (places[1] % 7) as usize;
     let c = (places[2] % 7) as usize;
@@ -78,6 +79,7 @@ fn plan_within(sample: u32, file: &[u8], places: [u32; 4]) {
     let mut tasks = [TICK; ROOM];
     let reply = planner::plan(
         file,
+        launch,
         &mut marks[0..a],
         &mut starts[0..b],
         &mut ends[0..c],
@@ -91,32 +93,42 @@ fn plan_within(sample: u32, file: &[u8], places: [u32; 4]) {
     show_lists(marks, starts, ends, tasks);
 }
 
-// Plans the file of a sample of `count` tasks, and prints the reply, the lists, and what the judge says of a plan.
-fn plan_file(sample: u32, file: &[u8], count: usize) {
+// Plans the file of a sample of `count` tasks at a launch tick, and prints the reply, the lists, and what the judge says of a plan.
+fn plan_file(sample: u32, file: &[u8], launch: u32, count: usize) {
     let mut marks = [MARK; ROOM];
     let mut starts = [TICK; ROOM];
     let mut ends = [TICK; ROOM];
     let mut tasks = [TICK; ROOM];
-    let reply = planner::plan(file, &mut marks, &mut starts, &mut ends, &mut tasks);
+    let reply = planner::plan(file, launch, &mut marks, &mut starts, &mut ends, &mut tasks);
     show_reply(sample, reply);
     show_lists(marks, starts, ends, tasks);
-    let agrees = judges::agrees(reply, file, count % 4, &marks, &starts, &ends, &tasks);
+    let agrees = judges::agrees(
+        reply,
+        file,
+        launch,
+        count % 4,
+        &marks,
+        &starts,
+        &ends,
+        &tasks,
+    );
     show_verdict(reply.number, agrees);
 }
 
-// A sample's number, its file, and its number of tasks; or, where that is 0, the places of each of the four lists.
+// A sample's number, its file, the launch tick, and its number of tasks; or, where that is 0, the places of each of the four lists.
 pub fn plan(line: &[u8]) {
     let sample = cases::number(line, 1);
-    let count = (cases::number(line, 3) % 4) as usize;
+    let launch = cases::number(line, 3);
+    let count = (cases::number(line, 4) % 4) as usize;
     let mut file = [0u8; 32];
     let length = cases::file(line, 2, &mut file);
     if count != 0 {
-        plan_file(sample, &file[..length], count);
+        plan_file(sample, &file[..length], launch, count);
         return;
     }
     let mut places = [0u32; 4];
-    cases::numbers(line, 4, &mut places);
-    plan_within(sample, &file[..length], places);
+    cases::numbers(line, 5, &mut places);
+    plan_within(sample, &file[..length], launch, places);
 }
 
 // A sample's number and its file, which is moved by -1.

@@ -5,7 +5,7 @@ use Rattle.base.specs.Lowest.{lowestFrom, lowest, someBelow}
 use Rattle.base.specs.Places.{placesFrom, places}
 use Rattle.bits.specs.Bits.{bitAt, number, field, bitsOf, bitIn, bytesFrom, bytesFor, pack}
 use Rattle.bits.specs.Rows.{rowBits, rowsBits}
-use Rattle.clock.specs.Clock.{releaseTick, deadlineTick}
+use Rattle.clock.specs.Clock.{releaseOffset, deadlineOffset, releaseTick, deadlineTick}
 use Rattle.table.specs.Tables.{taskAt, tableOf, noTable}
 use Rattle.table.specs.Layout.{taskStart, fileLength, badCount, badPeriod}
 use Rattle.table.specs.Windows.{reversed, contains, nested, noLater, similar}
@@ -34,10 +34,12 @@ use Rattle.schedule.specs.Judging.{
   inWindows,
   totalOf,
   exactTotals,
+  verdictBy,
   verdict,
   keptCount,
   discardedCount,
   firstBadMark,
+  judgeBy,
   judgeTable,
   judged,
 }
@@ -61,6 +63,10 @@ use Rattle.plans.specs.Planning.{
   keepList,
   planMarks,
   planRuns,
+  marksBy,
+  planRunsBy,
+  madeBy,
+  replyBy,
   planOf,
   planTable,
   planReply,
@@ -77,12 +83,13 @@ use Rattle.printed_plan.specs.Printing.{
   longReply,
   printed,
 }
+use Rattle.printed_plan.specs.ProgramInput.{launchIn, printedInput}
 use Rattle.samples.specs.Inputs.{ascii, textOf}
-use Rattle.samples.specs.Samples.{samples}
+use Rattle.samples.specs.Samples.{p8File, computedSamples}
 use Rattle.samples.specs.Refusals.{computedRows}
 use Rattle.samples.specs.SampleTests.{allPass, sameNumbers, sameRuns, sameTasks, sameTable, fileMet, kindMet, planMet, sampleMet, callMet}
 
--- every sample flight passes, and every call whose test is computed
-pub all-pass : (allPass sampleMet samples ≡ true) × (allPass callMet computedRows ≡ true)
-unfolding allPass sampleMet planMet kindMet fileMet callMet sameTable sameTasks sameRuns sameNumbers textOf ascii printed longReply refusalText planText planLines runLines runLine dropLines dropsFrom line fields decimal decimalWithin planReply planTable planOf planRuns planMarks numberAt keepList tooShort firstUnmet runsBy chosenAs unmetBy exceedingAfter jobsLastFirst orderLastFirst beforeBy kindBefore similarBefore nestBefore lastFirst insertLater chosenInOrderBy orderKey firstLate placedInOrder fitsInOrder finish inTime endsAt worksPlaced latestFirst chosenBy bestList best better key keptWorth discardedWorth lexLess keptTicks keepLists worksFit worksOf total countBelow busyReply judged judgeTable firstBadMark keptCount discardedCount verdict exactTotals totalOf inWindows knownTasks inOrder followFrom noneEmpty runsOf runAt badColumns jobAt jobOf moveReply firstOutside movedOutside writeReply rowsReply firstTooWide tooWide fileOf rowsFile headBits reading readNested readAnswer headAnswer frontAnswer paddingSet tableIn taskIn taskFrom qIn pIn countIn nestingAnswer windowAnswer windowsAnswer kindAnswer forwardAnswer ofNeitherKind isNested pairwise failsEarlier similar noLater nested contains reversed badPeriod badCount fileLength taskStart noTable tableOf taskAt releaseTick deadlineTick rowsBits rowBits pack bytesFrom bytesFor bitIn bitsOf field number bitAt placesFrom places someBelow lowest lowestFrom
-all-pass = (refl, refl)
+-- every sample flight and every call whose test is computed passes, and P8 is planned into lists that are long enough for every table
+pub all-pass : (allPass sampleMet computedSamples ≡ true) × (allPass callMet computedRows ≡ true) × (longReply 0 p8File .number ≡ 0)
+unfolding allPass sampleMet planMet kindMet fileMet callMet sameTable sameTasks sameRuns sameNumbers textOf ascii printedInput launchIn printed longReply refusalText planText planLines runLines runLine dropLines dropsFrom line fields decimal decimalWithin planReply planTable replyBy madeBy planOf planRunsBy planRuns marksBy planMarks numberAt keepList tooShort firstUnmet runsBy chosenAs unmetBy exceedingAfter jobsLastFirst orderLastFirst beforeBy kindBefore similarBefore nestBefore lastFirst insertLater chosenInOrderBy orderKey firstLate placedInOrder fitsInOrder finish inTime endsAt worksPlaced latestFirst chosenBy bestList best better key keptWorth discardedWorth lexLess keptTicks keepLists worksFit worksOf total countBelow busyReply judged judgeTable judgeBy firstBadMark keptCount discardedCount verdict verdictBy exactTotals totalOf inWindows knownTasks inOrder followFrom noneEmpty runsOf runAt badColumns jobAt jobOf moveReply firstOutside movedOutside writeReply rowsReply firstTooWide tooWide fileOf rowsFile headBits reading readNested readAnswer headAnswer frontAnswer paddingSet tableIn taskIn taskFrom qIn pIn countIn nestingAnswer windowAnswer windowsAnswer kindAnswer forwardAnswer ofNeitherKind isNested pairwise failsEarlier similar noLater nested contains reversed badPeriod badCount fileLength taskStart noTable tableOf taskAt releaseTick deadlineTick releaseOffset deadlineOffset rowsBits rowBits pack bytesFrom bytesFor bitIn bitsOf field number bitAt placesFrom places someBelow lowest lowestFrom
+all-pass = (refl, refl, refl)

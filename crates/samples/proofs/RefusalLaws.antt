@@ -42,7 +42,10 @@ use Rattle.samples.specs.Refusals.{
 }
 use Rattle.samples.specs.SampleTests.{sameTable, callMet}
 use Rattle.samples.proofs.SameLaws.{pass-all, three, numbers-same, table-same, planned-same, written-same, judged-same, busy-same}
+use Rattle.samples.specs.Samples.{p8Table, p8File, p8Marks, p8Runs}
 use Rattle.samples.proofs.Computed.{all-pass}
+use Rattle.samples.proofs.LaunchSamples.{planned-later}
+use Rattle.samples.proofs.SampleLaws.{p8-at-0}
 
 -- what the test of a call says
 call-says : (call : Call) → callMet call ≡ true → CallSays call
@@ -52,10 +55,10 @@ call-says (reads file number place t) e =
     three (eqb (numberOf answer) number) (eqb (placeOf answer) place) (sameTable (reading file .table) t) (eqb-true _ _) (eqb-true _ _) (table-same _ _) e
 call-says (writes t room reply) e = written-same _ _ e
 call-says (moves file shift room reply) e = written-same _ _ e
-call-says (plans file lists reply) e = planned-same _ _ e
-call-says (judges file marks starts ends tasks reply) e = judged-same _ _ e
+call-says (plans file launch lists reply) e = planned-same _ _ e
+call-says (judges file launch marks starts ends tasks reply) e = judged-same _ _ e
 call-says (busyCounts starts ends tasks a b reply) e = busy-same _ _ e
-call-says (prints file text) e = numbers-same _ _ e
+call-says (prints input text) e = numbers-same _ _ e
 
 -- every row whose test is computed
 computed-say : All CallSays computedRows
@@ -98,8 +101,9 @@ ticks-counted n h =
 
 -- The refusals: each call of the table gets the whole reply of its row.
 pub refusal-samples : All CallSays refusals
+unfolding tableOf
 refusal-samples =
     all-append CallSays computedRows largeRows computed-say (
-      written-reads 64 1 1 _ 500 500 (computed-say .0),
-      (ticks-counted 4_096 (omega arith), tt),
+      planned-later 86_399_999 p8Table p8File 2 1 p8Marks p8Runs refl p8-at-0 .1,
+      (written-reads 64 1 1 _ 500 500 (computed-say .0), (ticks-counted 4_096 (omega arith), tt)),
     )

@@ -1,7 +1,7 @@
 -- The sample flights: the law that turns the test of a sample into what the sample says.
 use mathlib.Core.Path.{_≡_, refl, ap, _∙_}
 use mathlib.Core.Bool.{true}
-use mathlib.Core.List.{List}
+use mathlib.Core.List.{List, [], _∷_}
 use Prim.Native.Nat.{ℕ}
 use native.Mathlib.Omega.{arith}
 use lib.Dec.{eqb}
@@ -9,11 +9,12 @@ use lib.ListN.{length}
 use borrow.Author.Tests.{eqb-true, eq-eqb}
 use Rattle.base.specs.Tests.{pick, and}
 use Rattle.base.specs.Members.{All}
+use Rattle.base.proofs.MemberLaws.{all-append}
 use Rattle.clock.specs.Clock.{releaseTick, deadlineTick}
 use Rattle.table.specs.declared.Table.{Table}
 use Rattle.table.specs.declared.Answer.{Answer}
 use Rattle.table.specs.declared.Answer.the-variants.{Accepted, Short, Count, Long, Padding, Period, Window, Kind}
-use Rattle.table.specs.Tables.{taskAt}
+use Rattle.table.specs.Tables.{tableOf, taskAt}
 use Rattle.table.specs.Answers.{numberOf, placeOf}
 use Rattle.table.specs.Kinds.{nestingAnswer}
 use Rattle.table.specs.Reading.{tableIn}
@@ -21,11 +22,42 @@ use Rattle.table.specs.Writing.{fileOf}
 use Rattle.table.specs.Moving.{moveReply}
 use Rattle.schedule.specs.declared.Run.{Run}
 use Rattle.schedule.specs.Jobs.{jobAt}
+use Rattle.schedule.specs.Runs.{runOf as run}
 use Rattle.plans.specs.Planning.{listsFor, planReply, planMarks, planRuns}
-use Rattle.samples.specs.Samples.{Sample, PlanSample, clock, plan, window, move, text, nesting, FileHolds, PlanSays, Says, samples}
+use Rattle.lines.specs.Text.{decimalWithin, decimal, fields, line}
+use Rattle.printed_plan.specs.Printing.{dropsFrom, dropLines, runLine, runLines, planLines}
+use Rattle.printed_plan.specs.ProgramInput.{launchIn, printedInput}
+use Rattle.samples.specs.Inputs.{ascii, textOf}
+use Rattle.samples.specs.Samples.{
+  Sample,
+  PlanSample,
+  clock,
+  plan,
+  window,
+  move,
+  text,
+  nesting,
+  planned,
+  atNoon,
+  p8Table,
+  p8File,
+  p8Marks,
+  p8Runs,
+  p8NoonRuns,
+  p8NoonText,
+  tieTable,
+  tieFile,
+  computedSamples,
+  launchSamples,
+  FileHolds,
+  PlanSays,
+  Says,
+  samples,
+}
 use Rattle.samples.specs.SampleTests.{sameNumbers, sameRuns, sameTable, planParts, writtenParts, fileMet, kindMet, planMet, sampleMet}
 use Rattle.samples.proofs.SameLaws.{pass-all, both, three, numbers-same, runs-same, table-same, planned-same, written-same}
 use Rattle.samples.proofs.Computed.{all-pass}
+use Rattle.samples.proofs.LaunchSamples.{planned-later, text-later}
 
 -- what the test of a file and its table says
 file-holds : (file : List ℕ) (t : Table) → fileMet file t ≡ true → FileHolds file t
@@ -43,11 +75,11 @@ plan-holds number marks expected runs due e z =
 plan-says : (s : PlanSample) → planMet s ≡ true → PlanSays s
 unfolding planMet
 plan-says s e =
-    let reply = planReply (s .file) (listsFor (s .table .count)) in
+    let reply = planReply (s .launch) (s .file) (listsFor (s .table .count)) in
     let replied = sameNumbers (planParts reply) (planParts (s .reply)) in
-    let made = pick (eqb (s .reply .number) 0) (and (sameNumbers (planMarks (s .table)) (s .marks)) (sameRuns (planRuns (s .table)) (s .runs))) true in
+    let made = pick (eqb (s .reply .number) 0) (and (sameNumbers (planMarks (s .launch) (s .table)) (s .marks)) (sameRuns (planRuns (s .launch) (s .table)) (s .runs))) true in
     three (fileMet (s .file) (s .table)) replied made (file-holds (s .file) (s .table)) (planned-same reply (s .reply))
-    (plan-holds (s .reply .number) (planMarks (s .table)) (s .marks) (planRuns (s .table)) (s .runs))
+    (plan-holds (s .reply .number) (planMarks (s .launch) (s .table)) (s .marks) (planRuns (s .launch) (s .table)) (s .runs))
     e
 
 -- an answer of number 7 names a place and nothing else
@@ -72,10 +104,10 @@ kind-holds answer place e =
 sample-says : (s : Sample) → sampleMet s ≡ true → Says s
 unfolding sampleMet
 sample-says (clock s) e =
-    both (eqb (releaseTick (s .p) (s .q) (s .frame)) (s .release)) (eqb (deadlineTick (s .p) (s .q) (s .frame)) (s .deadline)) (eqb-true _ _) (eqb-true _ _) e
+    both (eqb (releaseTick (s .launch) (s .p) (s .q) (s .frame)) (s .release)) (eqb (deadlineTick (s .launch) (s .p) (s .q) (s .frame)) (s .deadline)) (eqb-true _ _) (eqb-true _ _) e
 sample-says (plan s) e = plan-says s e
 sample-says (window s) e =
-    let job = jobAt (s .table) (s .position) in
+    let job = jobAt (s .launch) (s .table) (s .position) in
     both (eqb (job .release) (s .release)) (eqb (job .deadline) (s .deadline)) (eqb-true _ _) (eqb-true _ _) e
 sample-says (move s) e =
     let reply = moveReply (s .file) (s .shift) (length (s .file)) in
@@ -85,7 +117,30 @@ sample-says (move s) e =
 sample-says (text s) e = numbers-same _ _ e
 sample-says (nesting s) e = kind-holds (nestingAnswer (taskAt (s .table)) (s .table .count)) (s .place) e
 
--- The sample flights: what document 01 says of P1 to P12, with P9 as request 1 of document 02 has it, and what the rows of request 1 say, holds of the
--- definitions.
+-- what every sample whose test is computed says
+computed-say : All Says computedSamples
+computed-say = pass-all Says sampleMet computedSamples sample-says (all-pass .0)
+
+-- P8, and the table of the tie, with launch 0
+pub p8-at-0 : Says (planned p8Table p8File 2 1 p8Marks p8Runs)
+p8-at-0 = computed-say .1 .1 .1 .1 .1 .1 .1 .1 .0
+
+tie-at-0 : Says (planned tieTable tieFile 1 1 (0 ∷ 1 ∷ []) (run 0 1 0 ∷ run 1 5 1 ∷ []))
+tie-at-0 = computed-say .1 .1 .1 .1 .1 .1 .1 .1 .1 .1 .1 .1 .1 .1 .1 .1 .1 .0
+
+-- P8's text at launch 43,200,000
+noon-text : printedInput (atNoon p8File) ≡ p8NoonText
+unfolding printedInput launchIn planLines runLines runLine dropLines dropsFrom line fields decimal decimalWithin textOf ascii tableOf
+noon-text = text-later 43_200_000 p8Table p8File 2 1 p8Marks p8Runs refl (all-pass .2) p8-at-0 ∙ lines
+  where
+    lines : planLines 3 2 1 p8Marks p8NoonRuns ≡ p8NoonText
+    lines = refl
+
+-- The sample flights: what document 01 says of P1 to P12, with P9 as request 1 of document 02 has it, and what the rows of requests 1 and 2 say, holds of
+-- the definitions.
 pub flight-samples : All Says samples
-flight-samples = pass-all Says sampleMet samples sample-says (all-pass .0)
+flight-samples =
+    all-append Says computedSamples launchSamples computed-say (
+      planned-later 43_200_000 p8Table p8File 2 1 p8Marks p8Runs refl p8-at-0,
+      (noon-text, (planned-later 86_399_999 tieTable tieFile 1 1 (0 ∷ 1 ∷ []) (run 0 1 0 ∷ run 1 5 1 ∷ []) refl tie-at-0, tt)),
+    )

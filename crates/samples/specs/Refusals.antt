@@ -1,5 +1,5 @@
--- The refusals of document 01, with 7 and 8 as request 1 of document 02 has them, as one table of 98 calls and their whole replies: every number with
--- its place, the order among the numbers, calls at a limit that are not refused, and calls on similar tables, which are not refused either.
+-- The refusals of document 01, with 7 and 8 as request 1 of document 02 has them and 14 of request 2, as one table of 127 calls and their whole replies:
+-- every number with its place, the order among the numbers, calls at a limit that are not refused, and calls on similar tables, which are not refused either.
 use Prim.Native.Nat.{ℕ, _-_}
 use mathlib.Core.Path.{_≡_}
 use mathlib.Core.Bool.{true, false}
@@ -18,10 +18,10 @@ use Rattle.schedule.specs.declared.Busy.{Busy}
 use Rattle.schedule.specs.Judging.{judged, judgeDeclined, judgeSays}
 use Rattle.schedule.specs.BusyCount.{busyReply}
 use Rattle.plans.specs.declared.Planned.{Planned}
-use Rattle.plans.specs.Planning.{LentLists, lent, planDeclined, planReply, planMade}
-use Rattle.printed_plan.specs.Printing.{printed}
+use Rattle.plans.specs.Planning.{LentLists, lent, listsFor, planDeclined, planReply, planMade}
+use Rattle.printed_plan.specs.ProgramInput.{printedInput}
 use Rattle.samples.specs.Inputs.{task, table, textOf}
-use Rattle.samples.specs.Samples.{p4File, p8File, p8Marks, neitherTable, tieFile, lateFile}
+use Rattle.samples.specs.Samples.{p4File, p8File, p8Marks, neitherTable, tieFile, lateFile, atZero}
 
 -- a call, with what is given to it and its whole reply
 pub data Call : Type 0 where
@@ -31,13 +31,13 @@ pub data Call : Type 0 where
   writes : Table → ℕ → Written → Call
   -- moving a file by a number of frames into a list of so many bytes
   moves : List ℕ → ℤ → ℕ → Written → Call
-  -- planning a file into lent lists
-  plans : List ℕ → LentLists → Planned → Call
-  -- judging a file, a keep list, and runs by their starts, ends and tasks
-  judges : List ℕ → List ℕ → List ℕ → List ℕ → List ℕ → Judged → Call
+  -- planning a file at a launch tick into lent lists
+  plans : List ℕ → ℕ → LentLists → Planned → Call
+  -- judging a file at a launch tick, a keep list, and runs by their starts, ends and tasks
+  judges : List ℕ → ℕ → List ℕ → List ℕ → List ℕ → List ℕ → Judged → Call
   -- the busy count of runs by their starts, ends and tasks, from one tick to another
   busyCounts : List ℕ → List ℕ → List ℕ → ℕ → ℕ → Busy → Call
-  -- printing the plan of a file: the bytes of the text
+  -- printing what an input of the program gets: the bytes of the text
   prints : List ℕ → List ℕ → Call
 
 -- what a call's row says of the definitions
@@ -46,10 +46,10 @@ CallSays (reads file number place t) =
     (numberOf (reading file .answer) ≡ number) × (placeOf (reading file .answer) ≡ place) × (reading file .table ≡ t)
 CallSays (writes t room reply) = writeReply t room ≡ reply
 CallSays (moves file shift room reply) = moveReply file shift room ≡ reply
-CallSays (plans file lists reply) = planReply file lists ≡ reply
-CallSays (judges file marks starts ends tasks reply) = judged file marks starts ends tasks ≡ reply
+CallSays (plans file launch lists reply) = planReply launch file lists ≡ reply
+CallSays (judges file launch marks starts ends tasks reply) = judged launch file marks starts ends tasks ≡ reply
 CallSays (busyCounts starts ends tasks a b reply) = busyReply starts ends tasks a b ≡ reply
-CallSays (prints file text) = printed file ≡ text
+CallSays (prints input text) = printedInput input ≡ text
 
 -- a file that reading refuses: the table is 0 throughout
 abbrev pub unread : List ℕ → ℕ → ℕ → Call
@@ -226,61 +226,103 @@ movingRows =
     ∷ moves similarFile (pos 1) 28 (wrote 28)
     ∷ []
 
--- Planning: reading, 8, 9. Two tasks need 2 marks and 3 runs, three tasks 3 marks and 5 runs.
+-- Planning with launch 0: reading, 8, 9. Two tasks need 2 marks and 3 runs, three tasks 3 marks and 5 runs.
 abbrev pub planningRows : List Call
 planningRows =
     -- reading's refusal with its place, before 9, and before 8: task 0 exceeds its window, and the table is of neither kind
-    plans longFile (lists 0 0 0 0) (planDeclined 3 12)
-    ∷ plans (fileOf (table 1 1 (task 0 5 6 0 ∷ task 3 9 0 0 ∷ task 4 6 0 0 ∷ []))) (lists 3 5 5 5) (planDeclined 7 2)
+    plans longFile 0 (lists 0 0 0 0) (planDeclined 3 12)
+    ∷ plans (fileOf (table 1 1 (task 0 5 6 0 ∷ task 3 9 0 0 ∷ task 4 6 0 0 ∷ []))) 0 (lists 3 5 5 5) (planDeclined 7 2)
     -- without its last task the table is similar: 8
-    ∷ plans (fileOf (table 1 1 (task 0 5 6 0 ∷ task 3 9 0 0 ∷ []))) (lists 2 3 3 3) (planDeclined 8 0)
+    ∷ plans (fileOf (table 1 1 (task 0 5 6 0 ∷ task 3 9 0 0 ∷ []))) 0 (lists 2 3 3 3) (planDeclined 8 0)
     -- 8, the position of the first task in nest order that exceeds
-    ∷ plans outermostExceeds (lists 3 5 5 5) (planDeclined 8 1)
-    ∷ plans innermostExceeds (lists 3 5 5 5) (planDeclined 8 1)
+    ∷ plans outermostExceeds 0 (lists 3 5 5 5) (planDeclined 8 1)
+    ∷ plans innermostExceeds 0 (lists 3 5 5 5) (planDeclined 8 1)
     -- in a similar table the position of the first task in similar order that can't be met: it is the last there, and it is the first of two
-    ∷ plans lastLate (lists 3 5 5 5) (planDeclined 8 0)
-    ∷ plans bothLate (lists 2 3 3 3) (planDeclined 8 1)
+    ∷ plans lastLate 0 (lists 3 5 5 5) (planDeclined 8 0)
+    ∷ plans bothLate 0 (lists 2 3 3 3) (planDeclined 8 1)
     -- 8 before 9, in a nested and in a similar table
-    ∷ plans outermostExceeds (lists 0 0 0 0) (planDeclined 8 1)
-    ∷ plans lateFile (lists 0 0 0 0) (planDeclined 8 2)
+    ∷ plans outermostExceeds 0 (lists 0 0 0 0) (planDeclined 8 1)
+    ∷ plans lateFile 0 (lists 0 0 0 0) (planDeclined 8 2)
     -- 9: the marks and each column of the runs one short
-    ∷ plans p8File (lists 2 5 5 5) (planDeclined 9 0)
-    ∷ plans p8File (lists 3 4 5 5) (planDeclined 9 0)
-    ∷ plans p8File (lists 3 5 4 5) (planDeclined 9 0)
-    ∷ plans p8File (lists 3 5 5 4) (planDeclined 9 0)
+    ∷ plans p8File 0 (lists 2 5 5 5) (planDeclined 9 0)
+    ∷ plans p8File 0 (lists 3 4 5 5) (planDeclined 9 0)
+    ∷ plans p8File 0 (lists 3 5 4 5) (planDeclined 9 0)
+    ∷ plans p8File 0 (lists 3 5 5 4) (planDeclined 9 0)
     -- 9 in a similar table too, where 2n − 2 runs would do for this plan, and with 2n − 1 it is planned
-    ∷ plans tieFile (lists 2 2 2 2) (planDeclined 9 0)
-    ∷ plans tieFile (lists 2 3 3 3) (planMade 1 1 2)
+    ∷ plans tieFile 0 (lists 2 2 2 2) (planDeclined 9 0)
+    ∷ plans tieFile 0 (lists 2 3 3 3) (planMade 1 1 2)
     -- the line printed of a refusal
-    ∷ prints outermostExceeds (textOf ("REFUSED 8 1" ∷ []))
-    ∷ prints longFile (textOf ("REFUSED 3 12" ∷ []))
+    ∷ prints (atZero outermostExceeds) (textOf ("REFUSED 8 1" ∷ []))
+    ∷ prints (atZero longFile) (textOf ("REFUSED 3 12" ∷ []))
     ∷ []
 
--- Judging: reading, 11, 13; in 11 the length goes first.
+-- Judging with launch 0: reading, 11, 13; in 11 the length goes first.
 abbrev pub judgingRows : List Call
 judgingRows =
     -- reading's refusal with its place
-    judges longFile [] [] [] [] (judgeDeclined 3 12)
+    judges longFile 0 [] [] [] [] (judgeDeclined 3 12)
     -- 7 before 11, where document 01's place would be 1
-    ∷ judges neitherFile [] [] [] [] (judgeDeclined 7 2)
+    ∷ judges neitherFile 0 [] [] [] [] (judgeDeclined 7 2)
     -- 11, the task count: a keep list too short and one too long, whatever its marks
-    ∷ judges p8File (2 ∷ 1 ∷ []) [] [] [] (judgeDeclined 11 3)
-    ∷ judges p8File (1 ∷ 2 ∷ 1 ∷ 1 ∷ []) [] [] [] (judgeDeclined 11 3)
+    ∷ judges p8File 0 (2 ∷ 1 ∷ []) [] [] [] (judgeDeclined 11 3)
+    ∷ judges p8File 0 (1 ∷ 2 ∷ 1 ∷ 1 ∷ []) [] [] [] (judgeDeclined 11 3)
     -- 11, the first mark above 1
-    ∷ judges p8File (1 ∷ 2 ∷ 2 ∷ []) [] [] [] (judgeDeclined 11 1)
+    ∷ judges p8File 0 (1 ∷ 2 ∷ 2 ∷ []) [] [] [] (judgeDeclined 11 1)
     -- 11 before 13
-    ∷ judges p8File (1 ∷ 2 ∷ 1 ∷ []) (0 ∷ []) [] [] (judgeDeclined 11 1)
+    ∷ judges p8File 0 (1 ∷ 2 ∷ 1 ∷ []) (0 ∷ []) [] [] (judgeDeclined 11 1)
     -- 13: each column of unequal length, 4,097 runs
-    ∷ judges p8File p8Marks (2 ∷ []) [] [] (judgeDeclined 13 0)
-    ∷ judges p8File p8Marks (2 ∷ []) (4 ∷ []) [] (judgeDeclined 13 0)
-    ∷ judges p8File p8Marks (2 ∷ []) [] (0 ∷ []) (judgeDeclined 13 0)
-    ∷ judges p8File p8Marks (replicate 4_097 0) (replicate 4_097 0) (replicate 4_097 0) (judgeDeclined 13 0)
+    ∷ judges p8File 0 p8Marks (2 ∷ []) [] [] (judgeDeclined 13 0)
+    ∷ judges p8File 0 p8Marks (2 ∷ []) (4 ∷ []) [] (judgeDeclined 13 0)
+    ∷ judges p8File 0 p8Marks (2 ∷ []) [] (0 ∷ []) (judgeDeclined 13 0)
+    ∷ judges p8File 0 p8Marks (replicate 4_097 0) (replicate 4_097 0) (replicate 4_097 0) (judgeDeclined 13 0)
     -- a similar table, windows 0 to 4 and 1 to 5: yes with its counts for the planner's plan, and for another that keeps the other part and runs late
-    ∷ judges tieFile (0 ∷ 1 ∷ []) (0 ∷ 1 ∷ []) (1 ∷ 5 ∷ []) (0 ∷ 1 ∷ []) (judgeSays true 1 1)
-    ∷ judges tieFile (1 ∷ 0 ∷ []) (2 ∷ 4 ∷ []) (4 ∷ 5 ∷ []) (0 ∷ 1 ∷ []) (judgeSays true 1 1)
+    ∷ judges tieFile 0 (0 ∷ 1 ∷ []) (0 ∷ 1 ∷ []) (1 ∷ 5 ∷ []) (0 ∷ 1 ∷ []) (judgeSays true 1 1)
+    ∷ judges tieFile 0 (1 ∷ 0 ∷ []) (2 ∷ 4 ∷ []) (4 ∷ 5 ∷ []) (0 ∷ 1 ∷ []) (judgeSays true 1 1)
     -- no for a run outside its window: task 1 before its release, task 0 after its deadline
-    ∷ judges tieFile (1 ∷ 0 ∷ []) (0 ∷ 1 ∷ []) (1 ∷ 3 ∷ []) (1 ∷ 0 ∷ []) (judgeSays false 0 0)
-    ∷ judges tieFile (1 ∷ 0 ∷ []) (1 ∷ 3 ∷ []) (2 ∷ 5 ∷ []) (1 ∷ 0 ∷ []) (judgeSays false 0 0)
+    ∷ judges tieFile 0 (1 ∷ 0 ∷ []) (0 ∷ 1 ∷ []) (1 ∷ 3 ∷ []) (1 ∷ 0 ∷ []) (judgeSays false 0 0)
+    ∷ judges tieFile 0 (1 ∷ 0 ∷ []) (1 ∷ 3 ∷ []) (2 ∷ 5 ∷ []) (1 ∷ 0 ∷ []) (judgeSays false 0 0)
+    ∷ []
+
+-- The launch tick: 14, place 0, above 86,399,999, after every refusal of reading and before 8, 9, 11 and 13.
+abbrev pub launchRows : List Call
+launchRows =
+    -- planning: one tick above the limit, and the greatest number of 32 bits
+    plans p8File 86_400_000 (lists 3 5 5 5) (planDeclined 14 0)
+    ∷ plans p8File 4_294_967_295 (lists 3 5 5 5) (planDeclined 14 0)
+    -- reading's refusals before 14: 1, 2, 3, 4, 5, 6, 7
+    ∷ plans [] 86_400_000 (lists 0 0 0 0) (planDeclined 1 0)
+    ∷ plans (replicate 4 0) 86_400_000 (lists 0 0 0 0) (planDeclined 2 0)
+    ∷ plans longFile 86_400_000 (lists 0 0 0 0) (planDeclined 3 12)
+    ∷ plans (ending 0x91 p4File) 86_400_000 (lists 0 0 0 0) (planDeclined 4 0)
+    ∷ plans (fileOf (table 4 5 (task 0 2 0 0 ∷ []))) 86_400_000 (lists 0 0 0 0) (planDeclined 5 0)
+    ∷ plans (fileOf (table 1 1 (task 0 9 0 0 ∷ task 3 3 0 0 ∷ []))) 86_400_000 (lists 0 0 0 0) (planDeclined 6 1)
+    ∷ plans neitherFile 86_400_000 (lists 0 0 0 0) (planDeclined 7 2)
+    -- 14 before 8, and before 9
+    ∷ plans outermostExceeds 86_400_000 (lists 3 5 5 5) (planDeclined 14 0)
+    ∷ plans p8File 86_400_000 (lists 0 0 0 0) (planDeclined 14 0)
+    -- at the limit: 8 in a nested and in a similar table and 9, as with launch 0
+    ∷ plans outermostExceeds 86_399_999 (lists 3 5 5 5) (planDeclined 8 1)
+    ∷ plans lateFile 86_399_999 (lists 3 5 5 5) (planDeclined 8 2)
+    ∷ plans p8File 86_399_999 (lists 2 5 5 5) (planDeclined 9 0)
+    -- judging: reading's refusal before 14
+    ∷ judges neitherFile 86_400_000 [] [] [] [] (judgeDeclined 7 2)
+    -- 14, before 11 and before 13
+    ∷ judges tieFile 86_400_000 (0 ∷ 1 ∷ []) (86_400_000 ∷ 86_400_001 ∷ []) (86_400_001 ∷ 86_400_005 ∷ []) (0 ∷ 1 ∷ []) (judgeDeclined 14 0)
+    ∷ judges p8File 86_400_000 (2 ∷ 1 ∷ []) [] [] [] (judgeDeclined 14 0)
+    ∷ judges p8File 86_400_000 p8Marks (2 ∷ []) [] [] (judgeDeclined 14 0)
+    -- at the limit: yes for the plan that lies later by it, which with launch 0 gets a no, and no for the plan of launch 0
+    ∷ judges tieFile 86_399_999 (0 ∷ 1 ∷ []) (86_399_999 ∷ 86_400_000 ∷ []) (86_400_000 ∷ 86_400_004 ∷ []) (0 ∷ 1 ∷ []) (judgeSays true 1 1)
+    ∷ judges tieFile 0 (0 ∷ 1 ∷ []) (86_399_999 ∷ 86_400_000 ∷ []) (86_400_000 ∷ 86_400_004 ∷ []) (0 ∷ 1 ∷ []) (judgeSays false 0 0)
+    ∷ judges tieFile 86_399_999 (0 ∷ 1 ∷ []) (0 ∷ 1 ∷ []) (1 ∷ 5 ∷ []) (0 ∷ 1 ∷ []) (judgeSays false 0 0)
+    -- the program's input: fewer than 4 bytes get 1 with the input's length; from 4 bytes on 1 has the length of the file that follows them
+    ∷ prints [] (textOf ("REFUSED 1 0" ∷ []))
+    ∷ prints (0x05 ∷ 0x26 ∷ 0x5C ∷ []) (textOf ("REFUSED 1 3" ∷ []))
+    ∷ prints (atZero []) (textOf ("REFUSED 1 0" ∷ []))
+    ∷ prints (atZero (take 11 p4File)) (textOf ("REFUSED 1 11" ∷ []))
+    -- high byte first: 05 26 5C 00 is 86,400,000, 05 26 5B FF is 86,399,999, and 00 5C 26 05 is 6,039,045
+    ∷ prints (0x05 ∷ 0x26 ∷ 0x5C ∷ 0x00 ∷ outermostExceeds) (textOf ("REFUSED 14 0" ∷ []))
+    ∷ prints (0x05 ∷ 0x26 ∷ 0x5B ∷ 0xFF ∷ outermostExceeds) (textOf ("REFUSED 8 1" ∷ []))
+    ∷ prints (0x00 ∷ 0x5C ∷ 0x26 ∷ 0x05 ∷ outermostExceeds) (textOf ("REFUSED 8 1" ∷ []))
     ∷ []
 
 -- Busy count: 13 only.
@@ -299,21 +341,23 @@ limitRows =
     -- 64 tasks are written
     writes (equalTasks 64) 500 (wrote 500)
     -- 4,096 runs are judged; the first is empty, so the reply is no
-    ∷ judges p8File p8Marks (replicate 4_096 0) (replicate 4_096 0) (replicate 4_096 0) (judgeSays false 0 0)
+    ∷ judges p8File 0 p8Marks (replicate 4_096 0) (replicate 4_096 0) (replicate 4_096 0) (judgeSays false 0 0)
     ∷ []
 
--- And two more, which are proved by laws: to compute them takes too long.
+-- And three more, which are proved by laws: to compute them takes too long.
 abbrev pub largeRows : List Call
 largeRows =
+    -- a plan at the greatest launch tick
+    plans p8File 86_399_999 (listsFor 3) (planMade 2 1 5)
     -- 64 tasks are read
-    reads (fileOf (equalTasks 64)) 0 0 (equalTasks 64)
+    ∷ reads (fileOf (equalTasks 64)) 0 0 (equalTasks 64)
     -- 4,096 runs are counted, one tick each
     ∷ busyCounts (replicate 4_096 0) (replicate 4_096 1) (replicate 4_096 0) 0 9 (counted 4_096)
     ∷ []
 
 -- the rows whose test is computed, and all rows
 abbrev pub computedRows : List Call
-computedRows = limitRows ++ readingRows ++ writingRows ++ movingRows ++ planningRows ++ judgingRows ++ busyRows
+computedRows = limitRows ++ readingRows ++ writingRows ++ movingRows ++ planningRows ++ judgingRows ++ launchRows ++ busyRows
 
 abbrev pub refusals : List Call
 refusals = computedRows ++ largeRows

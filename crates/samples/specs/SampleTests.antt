@@ -26,7 +26,7 @@ use Rattle.schedule.specs.Judging.{judged}
 use Rattle.schedule.specs.BusyCount.{busyReply}
 use Rattle.plans.specs.declared.Planned.{Planned}
 use Rattle.plans.specs.Planning.{listsFor, planReply, planMarks, planRuns}
-use Rattle.printed_plan.specs.Printing.{printed}
+use Rattle.printed_plan.specs.ProgramInput.{printedInput}
 use Rattle.samples.specs.Samples.{Sample, PlanSample, clock, plan, window, move, text, nesting}
 use Rattle.samples.specs.Refusals.{Call, reads, writes, moves, plans, judges, busyCounts, prints}
 
@@ -80,21 +80,22 @@ fileMet file t = and (sameTable (tableIn file) t) (sameNumbers (fileOf t) file)
 unfoldable pub planMet : PlanSample → Bool
 planMet s =
     and (fileMet (s .file) (s .table))
-    (and (sameNumbers (planParts (planReply (s .file) (listsFor (s .table .count)))) (planParts (s .reply)))
-    (pick (eqb (s .reply .number) 0) (and (sameNumbers (planMarks (s .table)) (s .marks)) (sameRuns (planRuns (s .table)) (s .runs))) true))
+    (and (sameNumbers (planParts (planReply (s .launch) (s .file) (listsFor (s .table .count)))) (planParts (s .reply)))
+    (pick (eqb (s .reply .number) 0) (and (sameNumbers (planMarks (s .launch) (s .table)) (s .marks)) (sameRuns (planRuns (s .launch) (s .table)) (s .runs))) true))
 
 -- an answer is 7 with this place
 unfoldable pub kindMet : Answer → ℕ → Bool
 kindMet answer place = and (eqb (numberOf answer) 7) (eqb (placeOf answer) place)
 
 unfoldable pub sampleMet : Sample → Bool
-sampleMet (clock s) = and (eqb (releaseTick (s .p) (s .q) (s .frame)) (s .release)) (eqb (deadlineTick (s .p) (s .q) (s .frame)) (s .deadline))
+sampleMet (clock s) =
+    and (eqb (releaseTick (s .launch) (s .p) (s .q) (s .frame)) (s .release)) (eqb (deadlineTick (s .launch) (s .p) (s .q) (s .frame)) (s .deadline))
 sampleMet (plan s) = planMet s
 sampleMet (window s) =
-    and (eqb (jobAt (s .table) (s .position) .release) (s .release)) (eqb (jobAt (s .table) (s .position) .deadline) (s .deadline))
+    and (eqb (jobAt (s .launch) (s .table) (s .position) .release) (s .release)) (eqb (jobAt (s .launch) (s .table) (s .position) .deadline) (s .deadline))
 sampleMet (move s) =
     and (fileMet (s .file) (s .table)) (sameNumbers (writtenParts (moveReply (s .file) (s .shift) (length (s .file)))) (writtenParts (s .reply)))
-sampleMet (text s) = sameNumbers (printed (s .file)) (s .text)
+sampleMet (text s) = sameNumbers (printedInput (s .input)) (s .text)
 sampleMet (nesting s) = kindMet (nestingAnswer (taskAt (s .table)) (s .table .count)) (s .place)
 
 -- the calls
@@ -103,7 +104,7 @@ callMet (reads file number place t) =
     and (eqb (numberOf (reading file .answer)) number) (and (eqb (placeOf (reading file .answer)) place) (sameTable (reading file .table) t))
 callMet (writes t room reply) = sameNumbers (writtenParts (writeReply t room)) (writtenParts reply)
 callMet (moves file shift room reply) = sameNumbers (writtenParts (moveReply file shift room)) (writtenParts reply)
-callMet (plans file lists reply) = sameNumbers (planParts (planReply file lists)) (planParts reply)
-callMet (judges file marks starts ends tasks reply) = sameNumbers (judgedParts (judged file marks starts ends tasks)) (judgedParts reply)
+callMet (plans file launch lists reply) = sameNumbers (planParts (planReply launch file lists)) (planParts reply)
+callMet (judges file launch marks starts ends tasks reply) = sameNumbers (judgedParts (judged launch file marks starts ends tasks)) (judgedParts reply)
 callMet (busyCounts starts ends tasks a b reply) = sameNumbers (busyParts (busyReply starts ends tasks a b)) (busyParts reply)
-callMet (prints file bytes) = sameNumbers (printed file) bytes
+callMet (prints input bytes) = sameNumbers (printedInput input) bytes

@@ -1,7 +1,7 @@
--- The sample flights, as one table of 23 rows: frames and their ticks, tables with their files and plans, the ticks of a window, a table file and its
+-- The sample flights, as one table of 29 rows: frames and their ticks, tables with their files and plans, the ticks of a window, a table file and its
 -- moving, printed plans, and document 01's place of 7.
--- The first 14 rows are P1 to P12 of document 01; P9's windows are accepted since request 1 of document 02, and its lengths, which document 01 leaves
--- open, are chosen here. The 9 rows after them are added here, for what request 1 says of similar tables.
+-- P1 to P12 of document 01 are 14 rows; P9's windows are accepted since request 1 of document 02, and its lengths, which document 01 leaves open, are
+-- chosen here. Nine rows are added here for what request 1 says of similar tables, and six for the launch tick of request 2.
 use Prim.Native.Nat.{ℕ}
 use mathlib.Core.Path.{_≡_}
 use mathlib.Core.List.{List, [], _∷_, _++_, map}
@@ -23,20 +23,22 @@ use Rattle.schedule.specs.Jobs.{jobAt}
 use Rattle.schedule.specs.Runs.{runOf as run}
 use Rattle.plans.specs.declared.Planned.{Planned}
 use Rattle.plans.specs.Planning.{planDeclined, planMade, listsFor, planReply, planMarks, planRuns}
-use Rattle.printed_plan.specs.Printing.{printed}
+use Rattle.printed_plan.specs.ProgramInput.{printedInput}
 use Rattle.samples.specs.Inputs.{task, table, textOf}
 
--- a table with its file, the reply of planning into lists that are just long enough, and of a plan its marks and runs
+-- a table with its file, a launch tick, the reply of planning into lists that are just long enough, and of a plan its marks and runs
 pub record PlanSample : Type 0 where
   pub table : Table
   pub file : List ℕ
+  pub launch : ℕ
   pub reply : Planned
   pub marks : List ℕ
   pub runs : List Run
 
--- a task of a table, with the ticks expected of its release and of its deadline
+-- a task of a table at a launch tick, with the ticks expected of its release and of its deadline
 pub record WindowSample : Type 0 where
   pub table : Table
+  pub launch : ℕ
   pub position : ℕ
   pub release : ℕ
   pub deadline : ℕ
@@ -48,9 +50,9 @@ pub record MoveSample : Type 0 where
   pub shift : ℤ
   pub reply : Written
 
--- a table file, and the whole text printed of it
+-- an input of the program, the 4 bytes of a launch tick and a table file, and the whole text printed of it
 pub record PrintSample : Type 0 where
-  pub file : List ℕ
+  pub input : List ℕ
   pub text : List ℕ
 
 -- a table, and the place of the 7 that document 01's own rule sends: it stays the rule of readers and planners of nested tables alone
@@ -66,14 +68,30 @@ pub data Sample : Type 0 where
   text : PrintSample → Sample
   nesting : NestingSample → Sample
 
--- a table and its file with the plan expected: kept, discarded, marks, runs
-abbrev pub planned : Table → List ℕ → ℕ → ℕ → List ℕ → List Run → Sample
-planned t file kept discarded marks runs =
-    plan record { table = t; file = file; reply = planMade kept discarded (length runs); marks = marks; runs = runs }
+-- a table and its file with the plan expected at a launch tick: kept, discarded, marks, runs
+abbrev pub plannedAt : ℕ → Table → List ℕ → ℕ → ℕ → List ℕ → List Run → Sample
+plannedAt launch t file kept discarded marks runs =
+    plan record { table = t; file = file; launch = launch; reply = planMade kept discarded (length runs); marks = marks; runs = runs }
 
--- a table and its file that planning refuses
+-- the same with launch 0
+abbrev pub planned : Table → List ℕ → ℕ → ℕ → List ℕ → List Run → Sample
+planned = plannedAt 0
+
+-- a table and its file that planning refuses at a launch tick
+abbrev pub refusedAt : ℕ → Table → List ℕ → ℕ → ℕ → Sample
+refusedAt launch t file number place =
+    plan record { table = t; file = file; launch = launch; reply = planDeclined number place; marks = []; runs = [] }
+
+-- the same with launch 0
 abbrev pub refused : Table → List ℕ → ℕ → ℕ → Sample
-refused t file number place = plan record { table = t; file = file; reply = planDeclined number place; marks = []; runs = [] }
+refused = refusedAt 0
+
+-- an input of the program: the 4 bytes of launch tick 0, or of 43,200,000, which is 02 93 2E 00, and a file
+abbrev pub atZero : List ℕ → List ℕ
+atZero file = 0x00 ∷ 0x00 ∷ 0x00 ∷ 0x00 ∷ file
+
+abbrev pub atNoon : List ℕ → List ℕ
+atNoon file = 0x02 ∷ 0x93 ∷ 0x2E ∷ 0x00 ∷ file
 
 -- P4: one task, period 100/1, frames 0 to 2, mandatory 100, optional 50; the file as document 01 prints it
 abbrev pub p4Table : Table
@@ -91,9 +109,12 @@ p8File =
     0x06 ∷ 0x00 ∷ 0x20 ∷ 0x02 ∷ 0x00 ∷ 0x00 ∷ 0x00 ∷ 0x05 ∷ 0x00 ∷ 0x04 ∷ 0x00 ∷ 0x18 ∷ 0x00 ∷ 0x08 ∷ 0x00 ∷ 0x10 ∷ 0x00 ∷ 0x08 ∷ 0x00 ∷ 0x60 ∷ 0x00 ∷ 0x40
     ∷ 0x00 ∷ 0x30 ∷ 0x00 ∷ 0x20 ∷ 0x00 ∷ 0x80 ∷ []
 
--- the marks of their plan, and what document 01 prints of it
+-- the marks and the runs of their plan, and what document 01 prints of it
 abbrev pub p8Marks : List ℕ
 p8Marks = 1 ∷ 0 ∷ 1 ∷ []
+
+abbrev pub p8Runs : List Run
+p8Runs = run 2 4 0 ∷ run 4 6 2 ∷ run 6 7 0 ∷ run 7 8 1 ∷ run 8 10 0 ∷ []
 
 abbrev pub p8Text : List ℕ
 p8Text =
@@ -138,10 +159,10 @@ lateFile =
     0x06 ∷ 0x00 ∷ 0x20 ∷ 0x02 ∷ 0x00 ∷ 0x00 ∷ 0x00 ∷ 0x01 ∷ 0x80 ∷ 0x04 ∷ 0x00 ∷ 0x00 ∷ 0x00 ∷ 0x04 ∷ 0x00 ∷ 0x08 ∷ 0x00 ∷ 0x10 ∷ 0x00 ∷ 0x20 ∷ 0x00 ∷ 0x20
     ∷ 0x00 ∷ 0x28 ∷ 0x00 ∷ 0x40 ∷ 0x00 ∷ 0x00 ∷ []
 
--- P1 to P12, one after another, and then the rows of request 1
-abbrev pub samples : List Sample
-samples =
-    -- P1, P2 and P3
+-- P1 to P12, one after another, and then the rows of request 1 and those of request 2 whose test is computed
+abbrev pub computedSamples : List Sample
+computedSamples =
+    -- P1, P2 and P3, and after them P1's frame at launch 43,200,000
     map (λ sample. clock sample) clockSamples
     -- P4: one run, 50 to 200
     ++ planned p4Table p4File 1 0 (1 ∷ []) (run 50 200 0 ∷ [])
@@ -158,8 +179,8 @@ samples =
     (0x02 ∷ 0x0C ∷ 0x80 ∷ 0x02 ∷ 0x00 ∷ 0x00 ∷ 0x00 ∷ 0x01 ∷ 0x00 ∷ 0x00 ∷ 0x00 ∷ 0x00 ∷ [])
     0 0 (1 ∷ []) []
     -- P8: the three tasks, and their whole printed plan
-    ∷ planned p8Table p8File 2 1 p8Marks (run 2 4 0 ∷ run 4 6 2 ∷ run 6 7 0 ∷ run 7 8 1 ∷ run 8 10 0 ∷ [])
-    ∷ text record { file = p8File; text = p8Text }
+    ∷ planned p8Table p8File 2 1 p8Marks p8Runs
+    ∷ text record { input = atZero p8File; text = p8Text }
     -- P9: windows 0 to 5 and 5 to 9, accepted as similar; with 2 and 3, and 1 and 2, chosen here: both parts kept, each task runs as early as it can
     ∷ planned (table 1 1 (task 0 5 2 3 ∷ task 5 9 1 2 ∷ []))
     (0x04 ∷ 0x00 ∷ 0x20 ∷ 0x02 ∷ 0x00 ∷ 0x00 ∷ 0x00 ∷ 0x02 ∷ 0x80 ∷ 0x04 ∷ 0x00 ∷ 0x18 ∷ 0x00 ∷ 0x14 ∷ 0x00 ∷ 0x12 ∷ 0x00 ∷ 0x08 ∷ 0x00 ∷ 0x40 ∷ [])
@@ -169,7 +190,7 @@ samples =
     (0x04 ∷ 0x00 ∷ 0x20 ∷ 0x02 ∷ 0x00 ∷ 0x00 ∷ 0x00 ∷ 0x02 ∷ 0x00 ∷ 0x00 ∷ 0x00 ∷ 0x18 ∷ 0x00 ∷ 0x00 ∷ 0x00 ∷ 0x08 ∷ 0x00 ∷ 0x00 ∷ 0x00 ∷ 0x60 ∷ [])
     1 1 (0 ∷ 1 ∷ []) (run 1 4 1 ∷ [])
     -- P11: release and deadline are both tick 2, refusal 8
-    ∷ window record { table = p11Table; position = 0; release = 2; deadline = 2 }
+    ∷ window record { table = p11Table; launch = 0; position = 0; release = 2; deadline = 2 }
     ∷ refused p11Table (0x02 ∷ 0x00 ∷ 0xA0 ∷ 0x08 ∷ 0x00 ∷ 0x01 ∷ 0x00 ∷ 0x01 ∷ 0x00 ∷ 0x02 ∷ 0x00 ∷ 0x00 ∷ []) 8 0
     -- P12: P8's table moved by −1; refusal 10, place 0
     ∷ move record { table = p8Table; file = p8File; shift = negsuc 0; reply = declined 10 0 }
@@ -183,7 +204,7 @@ samples =
     ∷ nesting record { table = neitherTable; place = 1 }
     -- a tie: task 1 keeps its 3 ticks, since it stands last; the least total of kept ticks would keep the part of task 0. And the whole printed plan.
     ∷ planned tieTable tieFile 1 1 (0 ∷ 1 ∷ []) (run 0 1 0 ∷ run 1 5 1 ∷ [])
-    ∷ text record { file = tieFile; text = tieText }
+    ∷ text record { input = atZero tieFile; text = tieText }
     -- 'at the last task in that order where two differ it keeps': windows 0 to 6 and 3 to 9, equal lengths, one tick too much for both parts; tick 2 stays
     -- free, since task 1 is released at 3
     ∷ planned (table 1 1 (task 0 6 2 3 ∷ task 3 9 2 3 ∷ []))
@@ -205,7 +226,45 @@ samples =
     ∷ planned (table 1 1 (task 0 4 1 2 ∷ task 0 6 1 3 ∷ []))
     (0x04 ∷ 0x00 ∷ 0x20 ∷ 0x02 ∷ 0x00 ∷ 0x00 ∷ 0x00 ∷ 0x02 ∷ 0x00 ∷ 0x02 ∷ 0x00 ∷ 0x10 ∷ 0x00 ∷ 0x00 ∷ 0x00 ∷ 0x0C ∷ 0x00 ∷ 0x08 ∷ 0x00 ∷ 0x60 ∷ [])
     1 1 (1 ∷ 0 ∷ []) (run 1 4 0 ∷ run 5 6 1 ∷ [])
+    -- The rows of request 2.
+    -- P11's window at launch 43,200,000, and the 8 of the late table there, which is the same at every accepted launch tick
+    ∷ window record { table = p11Table; launch = 43_200_000; position = 0; release = 43_200_002; deadline = 43_200_002 }
+    ∷ refusedAt 43_200_000 lateTable lateFile 8 2
     ∷ []
+
+-- P8 at launch 43,200,000, which is noon: each run later by it, and the printed plan
+abbrev pub p8NoonRuns : List Run
+p8NoonRuns =
+    run 43_200_002 43_200_004 0
+    ∷ run 43_200_004 43_200_006 2
+    ∷ run 43_200_006 43_200_007 0
+    ∷ run 43_200_007 43_200_008 1
+    ∷ run 43_200_008 43_200_010 0
+    ∷ []
+
+abbrev pub p8NoonText : List ℕ
+p8NoonText =
+    textOf
+    ("PLAN 3 2 1"
+    ∷ "DROP 1"
+    ∷ "RUN 43200002 43200004 0"
+    ∷ "RUN 43200004 43200006 2"
+    ∷ "RUN 43200006 43200007 0"
+    ∷ "RUN 43200007 43200008 1"
+    ∷ "RUN 43200008 43200010 0"
+    ∷ [])
+
+-- the rows of request 2 that are proved by laws, from the rows with launch 0: to compute a placing tick by tick from tick 0 takes too long
+abbrev pub launchSamples : List Sample
+launchSamples =
+    plannedAt 43_200_000 p8Table p8File 2 1 p8Marks p8NoonRuns
+    ∷ text record { input = atNoon p8File; text = p8NoonText }
+    -- the similar table of the tie at the greatest launch tick
+    ∷ plannedAt 86_399_999 tieTable tieFile 1 1 (0 ∷ 1 ∷ []) (run 86_399_999 86_400_000 0 ∷ run 86_400_000 86_400_004 1 ∷ [])
+    ∷ []
+
+abbrev pub samples : List Sample
+samples = computedSamples ++ launchSamples
 
 -- What a sample says of the definitions.
 
@@ -217,13 +276,14 @@ FileHolds file t = (tableIn file ≡ t) × (fileOf t ≡ file)
 abbrev pub PlanSays : PlanSample → Type 0
 PlanSays s =
     FileHolds (s .file) (s .table)
-    × (planReply (s .file) (listsFor (s .table .count)) ≡ s .reply)
-    × (s .reply .number ≡ 0 → (planMarks (s .table) ≡ s .marks) × (planRuns (s .table) ≡ s .runs))
+    × (planReply (s .launch) (s .file) (listsFor (s .table .count)) ≡ s .reply)
+    × (s .reply .number ≡ 0 → (planMarks (s .launch) (s .table) ≡ s .marks) × (planRuns (s .launch) (s .table) ≡ s .runs))
 
 abbrev pub Says : Sample → Type 0
-Says (clock s) = (releaseTick (s .p) (s .q) (s .frame) ≡ s .release) × (deadlineTick (s .p) (s .q) (s .frame) ≡ s .deadline)
+Says (clock s) = (releaseTick (s .launch) (s .p) (s .q) (s .frame) ≡ s .release) × (deadlineTick (s .launch) (s .p) (s .q) (s .frame) ≡ s .deadline)
 Says (plan s) = PlanSays s
-Says (window s) = (jobAt (s .table) (s .position) .release ≡ s .release) × (jobAt (s .table) (s .position) .deadline ≡ s .deadline)
+Says (window s) =
+    (jobAt (s .launch) (s .table) (s .position) .release ≡ s .release) × (jobAt (s .launch) (s .table) (s .position) .deadline ≡ s .deadline)
 Says (move s) = FileHolds (s .file) (s .table) × (moveReply (s .file) (s .shift) (length (s .file)) ≡ s .reply)
-Says (text s) = printed (s .file) ≡ s .text
+Says (text s) = printedInput (s .input) ≡ s .text
 Says (nesting s) = nestingAnswer (taskAt (s .table)) (s .table .count) ≡ Kind (s .place)

@@ -1,8 +1,8 @@
 // Judges plans and counts busy ticks, and prints what each call answers. The cases are the lines of the file `stdin`, of which a line that starts with
 // `#` is a comment.
 //
-// A line of judging has the table file, the keep list in bytes, and the run columns: starts, ends, tasks. A line of counting has the run columns, the
-// interval's first tick, and the tick behind its last. What is printed is the case's title, and the number and place of the answer; then of judging
+// A line of judging has the table file, the launch tick, the keep list in bytes, and the run columns: starts, ends, tasks. A line of counting has the run
+// columns, the interval's first tick, and the tick behind its last. What is printed is the case's title, and the number and place of the answer; then of judging
 // the verdict and the counts kept and discarded, and of counting the sum.
 use base::MAX_RUNS;
 use libc::STDIN_FILENO;
@@ -31,12 +31,14 @@ fn judge(line: &[u8]) {
     let mut ends = [0u32; PLACES];
     let mut tasks = [0u32; PLACES];
     let length = cases::file(line, 1, &mut file);
-    let kept = cases::bytes(line, 2, &mut marks);
-    let first = cases::numbers(line, 3, &mut starts);
-    let second = cases::numbers(line, 4, &mut ends);
-    let third = cases::numbers(line, 5, &mut tasks);
+    let launch = cases::number(line, 2);
+    let kept = cases::bytes(line, 3, &mut marks);
+    let first = cases::numbers(line, 4, &mut starts);
+    let second = cases::numbers(line, 5, &mut ends);
+    let third = cases::numbers(line, 6, &mut tasks);
     show_verdict(judging::judge(
         &file[..length],
+        launch,
         &marks[..kept],
         &starts[..first],
         &ends[..second],

@@ -1,5 +1,7 @@
 // Plans of small tables, tick by tick: each tick has an owner, which is a position or nobody.
 
+use std::num::wrapping_add_u32;
+
 // The ticks of a small table, and one more that no window has.
 pub const TICKS: usize = 8;
 
@@ -9,9 +11,10 @@ pub const RUNS: usize = 7;
 // The owner of a free tick.
 pub const NOBODY: u32 = 4;
 
-// The runs are the longest stretches of one owner, in the order of time, and there are as many.
+// The runs are the longest stretches of one owner, each later by the launch tick, in the order of time, and there are as many.
 pub fn same_runs(
     owners: [u32; TICKS],
+    launch: u32,
     runs: usize,
     starts: [u32; RUNS],
     ends: [u32; RUNS],
@@ -23,13 +26,14 @@ pub fn same_runs(
     let mut tick: u32 = 0;
     while tick < 8 {
         let owner = owners[tick as usize];
+        let later = wrapping_add_u32(launch, tick);
         if owner != last {
             if last != NOBODY {
-                wrong = wrong | ends[run % 7] ^ tick;
+                wrong = wrong | ends[run % 7] ^ later;
                 run = run % 8 + 1;
             }
             if owner != NOBODY {
-                wrong = wrong | starts[run % 7] ^ tick | tasks[run % 7] ^ owner;
+                wrong = wrong | starts[run % 7] ^ later | tasks[run % 7] ^ owner;
             }
         }
         last = owner;

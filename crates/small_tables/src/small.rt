@@ -8,7 +8,7 @@ pub const PLACES: usize = 4;
 
 // All tables of `count` tasks with a period, in which a task has one of some windows, mandatory ticks 0 to 1, and optional ticks from 0 to `optional`, 3
 // at most. The windows are those below from place `first` on, and `more` after it, 5 at most. The period is 1/1, 3/2 or 5/4, which are the rows 0 to 2 of the
-// ticks below.
+// ticks below. The tables are planned at the launch tick `launch`.
 pub struct Family {
     pub count: usize,
     pub p: u32,
@@ -17,6 +17,7 @@ pub struct Family {
     pub first: u32,
     pub more: u32,
     pub optional: u32,
+    pub launch: u32,
 }
 
 // The windows in frames, release and deadline in turn: at places 0 to 5 all six within frames 0 to 3, at 6 to 8 three one in the other, and at 9 to 11 three

@@ -5,10 +5,10 @@ use Rattle.small_tables.proofs.owners.same_runs.Statement.{statement}
 use Rattle.small_tables.proofs.owners.same_runs.Tie as tie
 
 abbrev Inv-loop : tie.InvT-loop
-Inv-loop runs owners starts ends tasks wrong₀ last₀ run₀ tick₀ wrong last run tick = Unit
+Inv-loop launch runs owners starts ends tasks wrong₀ last₀ run₀ tick₀ wrong last run tick = Unit
 
 abbrev μ-loop : tie.MeasureT-loop
-μ-loop runs owners starts ends tasks wrong₀ last₀ run₀ tick₀ wrong last run tick = 8 - tick
+μ-loop launch runs owners starts ends tasks wrong₀ last₀ run₀ tick₀ wrong last run tick = 8 - tick
 
 loop-holds : tie.Need-loop-holds Inv-loop μ-loop
 loop-holds c = search needs
@@ -21,6 +21,9 @@ mul-owner c = search needs
 
 array-read-owner : tie.Need-array-read-owner Inv-loop μ-loop
 array-read-owner c = search needs
+
+wrapping-add-u32-requires : tie.Need-wrapping-add-u32-requires Inv-loop μ-loop
+wrapping-add-u32-requires c κs = search needs
 
 mul-wrong : tie.Need-mul-wrong Inv-loop μ-loop
 mul-wrong c = search needs
@@ -68,6 +71,7 @@ same-runs-spec =
     cast-owner
     mul-owner
     array-read-owner
+    wrapping-add-u32-requires
     mul-wrong
     array-read-wrong
     add-run
