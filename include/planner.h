@@ -12,8 +12,9 @@
  * No call uses a heap, keeps anything between calls, or writes anything but the lists that it was lent and its reply. Calls on different lists may
  * run at the same time on different threads. A call needs less than 32 KB of stack.
  *
- * Ticks are milliseconds. A frame lasts p/q ticks. A window holds the ticks from the least tick not before release * p / q, included, to the
- * greatest tick not after deadline * p / q, excluded.
+ * Ticks are milliseconds. A frame lasts p/q ticks. Planning and judging take a launch tick, 0 to 86399999 (a day's last tick), where frame 0 begins:
+ * it is added to every tick of the frame clock. A window holds the ticks from launch plus the least tick not before release * p / q, included, to
+ * launch plus the greatest tick not after deadline * p / q, excluded. No run of a plan ends after tick 131071 * 4095 + 86399999 = 623135744.
  *
  * Tables of two kinds are accepted. Both are judged in frames, and each has an order of its tasks.
  * - Nested: of any two windows one contains the other. Nest order puts the window with fewer frames first, and the lower position first among
@@ -40,6 +41,7 @@
  *   11      the keep list is not n long, or a mark is above 1                n if the length is wrong, else the first bad mark
  *   12      a field to be written is wider than its bits                     the lowest such position
  *   13      more than 4096 runs, or run columns of unequal length            0
+ *   14      the launch tick is above 86399999                                0
  *
  * The first cause that holds, in the order that stands at each call, is the one replied.
  */
@@ -54,13 +56,14 @@
 extern "C" {
 #endif
 
-#define PLANNER_MAX_TASKS 64       /* tasks of a table */
-#define PLANNER_MAX_RUNS 4096      /* runs of a list that is judged or counted */
-#define PLANNER_LAST_FRAME 131071  /* the last frame that a table can name */
-#define PLANNER_MAX_PERIOD 4095    /* p and q */
-#define PLANNER_MAX_TICKS 16383    /* a mandatory or an optional part */
-#define PLANNER_MAX_FILE 500       /* bytes of a file of 64 tasks */
-#define PLANNER_MAX_PLAN_RUNS 127  /* runs of a plan of 64 tasks */
+#define PLANNER_MAX_TASKS 64        /* tasks of a table */
+#define PLANNER_MAX_RUNS 4096       /* runs of a list that is judged or counted */
+#define PLANNER_LAST_FRAME 131071   /* the last frame that a table can name */
+#define PLANNER_MAX_PERIOD 4095     /* p and q */
+#define PLANNER_MAX_TICKS 16383     /* a mandatory or an optional part */
+#define PLANNER_MAX_LAUNCH 86399999 /* the last launch tick that is accepted: a day has 86400000 */
+#define PLANNER_MAX_FILE 500        /* bytes of a file of 64 tasks */
+#define PLANNER_MAX_PLAN_RUNS 127   /* runs of a plan of 64 tasks */
 
 /* The bytes of a file of n tasks. */
 #define PLANNER_FILE_LENGTH(n) ((31 + 62 * (size_t)(n) + 7) / 8)
@@ -84,7 +87,8 @@ enum {
     PLANNER_FRAME_OUTSIDE = 10,
     PLANNER_BAD_MARKS = 11,
     PLANNER_WIDE_FIELD = 12,
-    PLANNER_BAD_RUNS = 13
+    PLANNER_BAD_RUNS = 13,
+    PLANNER_BAD_LAUNCH = 14
 };
 
 /* A task: its window in frames, its two lengths in ticks. */
@@ -162,29 +166,32 @@ struct planner_written planner_write(struct planner_table table, uint8_t *out, s
 struct planner_written planner_shift(const uint8_t *file, size_t file_length, int32_t frames, uint8_t *out, size_t out_length);
 
 /*
- * Planning a file of n tasks, into lists of at least n marks and 2n - 1 starts, ends and tasks (64 and 127 are always enough). A mark is 1 where the
- * optional part of the task at that position is kept, and 0 where it is discarded; it is 1 for a part of 0 ticks. Run i of the plan gives the ticks
- * from starts[i], included, to ends[i], excluded, to the task tasks[i]; runs are listed by start.
+ * Planning a file of n tasks at a launch tick, into lists of at least n marks and 2n - 1 starts, ends and tasks (64 and 127 are always enough). A
+ * mark is 1 where the optional part of the task at that position is kept, and 0 where it is discarded; it is 1 for a part of 0 ticks. Run i of the
+ * plan gives the ticks from starts[i], included, to ends[i], excluded, to the task tasks[i]; runs are listed by start.
  * - Of the lists of marks that fit, the plan has one that discards fewest parts. In a nested table it is then one with the least total of kept
  *   optional ticks, and then, at the outermost task where two lists differ, the one that keeps. In a similar table it is then, at the last task in
  *   similar order where two lists differ, the one that keeps.
  * - In a nested table each task, in nest order, takes the latest ticks of its window that are still free. In a similar table each task runs in
  *   similar order, as early as it can, and the plan has at most n runs.
- * Refusals: those of reading, 8, 9. 9 is sent for fewer than 2n - 1 places whatever the kind.
+ * - The reply and the marks are the same for every accepted launch tick, and each run lies later by it than with launch 0.
+ * Refusals: those of reading, 14, 8, 9. 9 is sent for fewer than 2n - 1 places whatever the kind.
  */
 struct planner_planned planner_plan(const uint8_t *file, size_t file_length,
+                                    uint32_t launch,
                                     uint8_t *marks, size_t marks_length,
                                     uint32_t *starts, size_t starts_length,
                                     uint32_t *ends, size_t ends_length,
                                     uint32_t *tasks, size_t tasks_length);
 
 /*
- * Judging a keep list of n marks and a run list, whoever made them. Yes means: every start is below its end, no run starts before the one listed
- * before it ends, every task number is in the table, every run is inside its window, and each task's runs total its work exactly (its mandatory
- * ticks, plus its optional ticks where its mark is 1).
- * Refusals: those of reading, 11, 13.
+ * Judging a keep list of n marks and a run list at a launch tick, whoever made them. Yes means: every start is below its end, no run starts before
+ * the one listed before it ends, every task number is in the table, every run is inside its window at that launch tick, and each task's runs total
+ * its work exactly (its mandatory ticks, plus its optional ticks where its mark is 1).
+ * Refusals: those of reading, 14, 11, 13.
  */
 struct planner_judged planner_judge(const uint8_t *file, size_t file_length,
+                                    uint32_t launch,
                                     const uint8_t *marks, size_t marks_length,
                                     const uint32_t *starts, size_t starts_length,
                                     const uint32_t *ends, size_t ends_length,

@@ -1,8 +1,11 @@
-//! The best plan of a small table, by trying every keep list. Nothing is shared with the reference but the types of table and task and the frame
-//! clock: a table's kind is looked up pair by pair for every cut, fitting is added up as the rules say, work is placed tick by tick, and whether a keep
-//! list has any running is found by matching ticks to tasks, which knows nothing of kinds, orders and deadlines that come first.
+//! The best plan of a small table, by trying every keep list. Nothing is shared with the reference but the types of table and task: ticks are counted here,
+//! a table's kind is looked up pair by pair for every cut, fitting is added up as the rules say, work is placed tick by tick, and whether a keep list
+//! has any running is found by matching ticks to tasks, which knows nothing of kinds, orders and deadlines that come first.
 
-use crate::reference::{deadline_tick, release_tick, Table, Task};
+use crate::reference::{Table, Task};
+
+/// The last tick of a day.
+const LAST_OF_DAY: u32 = 24 * 60 * 60 * 1000 - 1;
 
 /// What the rules of the planner give for a table.
 #[derive(Clone, Debug, PartialEq, Eq)]
@@ -14,9 +17,10 @@ pub struct Best {
     pub runs: Vec<(u32, u32, u32)>,
 }
 
-/// A plan, or the number and the place of the refusal: 7 or 8.
+/// A plan, or the number and the place of the refusal: 7, 14 or 8.
 pub type Answer = Result<Best, (u32, usize)>;
 
+/// A task in ticks.
 struct Job {
     position: usize,
     release: u32,
@@ -26,6 +30,7 @@ struct Job {
 }
 
 impl Job {
+    /// The mandatory ticks, and the optional ones where the mark is 1.
     fn work(&self, marks: &[u8]) -> u32 {
         self.mandatory + if marks[self.position] == 1 { self.optional } else { 0 }
     }
@@ -59,63 +64,96 @@ fn first_exceeding(jobs: &[Job], marks: &[u8]) -> Option<usize> {
     })
 }
 
+/// The task that has each tick, if one has it, from a first tick on. That is the first release: no window has an earlier tick.
+struct Holders {
+    first: u32,
+    holders: Vec<Option<usize>>,
+}
+
+impl Holders {
+    /// No ticks yet.
+    fn none(jobs: &[Job]) -> Holders {
+        Holders { first: jobs.iter().map(|job| job.release).min().unwrap_or(0), holders: Vec::new() }
+    }
+
+    /// The ticks up to the last deadline, all of them free.
+    fn free(jobs: &[Job]) -> Holders {
+        let Holders { first, .. } = Holders::none(jobs);
+        let last = jobs.iter().map(|job| job.deadline).max().unwrap_or(0);
+        Holders { first, holders: vec![None; last.saturating_sub(first) as usize] }
+    }
+
+    /// The tick behind the last one.
+    fn next(&self) -> u32 {
+        self.first + self.holders.len() as u32
+    }
+
+    /// The place of a tick.
+    fn at(&mut self, tick: u32) -> &mut Option<usize> {
+        &mut self.holders[(tick - self.first) as usize]
+    }
+
+    /// The ticks, each with the task that has it, if one has it.
+    fn ticks(&self) -> impl Iterator<Item = (u32, Option<usize>)> + '_ {
+        (self.first..).zip(self.holders.iter().copied())
+    }
+}
+
 /// Who has each tick where every task in similar order runs as early as it can: a tick goes to the first task that has work left, if it is released.
 /// The ticks go on until all work is done.
-fn in_sequence(jobs: &[Job], marks: &[u8]) -> Vec<Option<usize>> {
+fn in_sequence(jobs: &[Job], marks: &[u8]) -> Holders {
     let mut missing: Vec<u32> = jobs.iter().map(|job| job.work(marks)).collect();
-    let mut holders = Vec::new();
+    let mut ticks = Holders::none(jobs);
     while let Some(i) = missing.iter().position(|&ticks| ticks > 0) {
-        let released = jobs[i].release as usize <= holders.len();
-        holders.push(released.then_some(i));
+        let released = jobs[i].release <= ticks.next();
+        ticks.holders.push(released.then_some(i));
         missing[i] -= u32::from(released);
     }
-    holders
+    ticks
 }
 
 /// The first task in similar order that has a tick at or after its deadline.
 fn first_late(jobs: &[Job], marks: &[u8]) -> Option<usize> {
-    let holders = in_sequence(jobs, marks);
-    (0..jobs.len()).find(|&i| holders.iter().skip(jobs[i].deadline as usize).any(|&holder| holder == Some(i)))
+    let ticks = in_sequence(jobs, marks);
+    (0..jobs.len()).find(|&i| ticks.ticks().any(|(tick, holder)| tick >= jobs[i].deadline && holder == Some(i)))
 }
 
 /// Who has each tick where every task in nest order takes the latest free ticks of its window. The list fits.
-fn in_nest(jobs: &[Job], marks: &[u8]) -> Vec<Option<usize>> {
-    let last = jobs.iter().map(|job| job.deadline).max().unwrap_or(0);
-    let mut holders = vec![None; last as usize];
+fn in_nest(jobs: &[Job], marks: &[u8]) -> Holders {
+    let mut ticks = Holders::free(jobs);
     for (i, job) in jobs.iter().enumerate() {
         let mut work = job.work(marks);
         for tick in (job.release..job.deadline).rev() {
-            if work > 0 && holders[tick as usize].is_none() {
-                holders[tick as usize] = Some(i);
+            if work > 0 && ticks.at(tick).is_none() {
+                *ticks.at(tick) = Some(i);
                 work -= 1;
             }
         }
         assert_eq!(work, 0, "a list that fits has no place");
     }
-    holders
+    ticks
 }
 
 /// Some running gives each task its work. The ticks are matched to the tasks, one tick of work after another: where no tick of the window is free, the
 /// task takes one from a task that can have another instead, over any number of tasks. Where that fails, the works can't all be matched.
 fn has_running(jobs: &[Job], marks: &[u8]) -> bool {
-    let last = jobs.iter().map(|job| job.deadline).max().unwrap_or(0);
-    let mut holders = vec![None; last as usize];
-    jobs.iter().enumerate().all(|(i, job)| (0..job.work(marks)).all(|_| get_tick(jobs, &mut holders, &mut vec![false; jobs.len()], i)))
+    let mut ticks = Holders::free(jobs);
+    jobs.iter().enumerate().all(|(i, job)| (0..job.work(marks)).all(|_| get_tick(jobs, &mut ticks, &mut vec![false; jobs.len()], i)))
 }
 
 /// Gives one tick more to a task, and moves others to other ticks where that is needed. Tasks that were asked before are not asked again. Where the answer
 /// is no, nothing has moved.
-fn get_tick(jobs: &[Job], holders: &mut [Option<usize>], asked: &mut [bool], i: usize) -> bool {
+fn get_tick(jobs: &[Job], ticks: &mut Holders, asked: &mut [bool], i: usize) -> bool {
     asked[i] = true;
-    let window = jobs[i].release as usize..jobs[i].deadline as usize;
-    if let Some(tick) = window.clone().find(|&tick| holders[tick].is_none()) {
-        holders[tick] = Some(i);
+    let window = jobs[i].release..jobs[i].deadline;
+    if let Some(tick) = window.clone().find(|&tick| ticks.at(tick).is_none()) {
+        *ticks.at(tick) = Some(i);
         return true;
     }
     for tick in window {
-        if let Some(other) = holders[tick] {
-            if !asked[other] && get_tick(jobs, holders, asked, other) {
-                holders[tick] = Some(i);
+        if let Some(other) = *ticks.at(tick) {
+            if !asked[other] && get_tick(jobs, ticks, asked, other) {
+                *ticks.at(tick) = Some(i);
                 return true;
             }
         }
@@ -124,9 +162,9 @@ fn get_tick(jobs: &[Job], holders: &mut [Option<usize>], asked: &mut [bool], i: 
 }
 
 /// The runs: the longest stretches of one task.
-fn stretches(jobs: &[Job], holders: &[Option<usize>]) -> Vec<(u32, u32, u32)> {
+fn stretches(jobs: &[Job], ticks: &Holders) -> Vec<(u32, u32, u32)> {
     let mut runs: Vec<(u32, u32, u32)> = Vec::new();
-    for (tick, &holder) in (0..).zip(holders) {
+    for (tick, holder) in ticks.ticks() {
         let Some(i) = holder else { continue };
         let task = jobs[i].position as u32;
         match runs.last_mut() {
@@ -137,8 +175,11 @@ fn stretches(jobs: &[Job], holders: &[Option<usize>]) -> Vec<(u32, u32, u32)> {
     runs
 }
 
-/// The tasks in ticks, in the order of the table's kind: a stable sort keeps the lower position first among equals.
-fn in_order(table: &Table, nested: bool) -> Vec<Job> {
+/// The tasks in ticks at a launch tick, in the order of the table's kind: a stable sort keeps the lower position first among equals.
+fn in_order(table: &Table, launch: u32, nested: bool) -> Vec<Job> {
+    // The whole ticks of a frame; a release that does not fall on one waits for the next.
+    let whole = |frame: u32| launch + frame * table.p / table.q;
+    let waits = |frame: u32| u32::from(frame * table.p % table.q != 0);
     let mut positions: Vec<usize> = (0..table.count as usize).collect();
     if nested {
         positions.sort_by_key(|&k| table.tasks[k].deadline - table.tasks[k].release);
@@ -150,8 +191,8 @@ fn in_order(table: &Table, nested: bool) -> Vec<Job> {
         let task = table.tasks[position];
         Job {
             position,
-            release: release_tick(task.release, table.p, table.q),
-            deadline: deadline_tick(task.deadline, table.p, table.q),
+            release: whole(task.release) + waits(task.release),
+            deadline: whole(task.deadline),
             mandatory: task.mandatory,
             optional: task.optional,
         }
@@ -159,13 +200,16 @@ fn in_order(table: &Table, nested: bool) -> Vec<Job> {
     positions.into_iter().map(job).collect()
 }
 
-/// What planning owes a table whose windows are forward. An error says where the rules contradict one another.
-pub fn best(table: &Table) -> Result<Answer, String> {
+/// What planning at a launch tick owes a table whose windows are forward. An error says where the rules contradict one another.
+pub fn best(table: &Table, launch: u32) -> Result<Answer, String> {
     if let Some(k) = first_of_neither(table.tasks()) {
         return Ok(Err((7, k)));
     }
+    if launch > LAST_OF_DAY {
+        return Ok(Err((14, 0)));
+    }
     let nested = is_nested(table.tasks());
-    let jobs = in_order(table, nested);
+    let jobs = in_order(table, launch, nested);
     let first_unmet = if nested { first_exceeding } else { first_late };
     let n = jobs.len();
 
@@ -217,6 +261,6 @@ pub fn best(table: &Table) -> Result<Answer, String> {
         return Err("the fewest discards of a list and of a running".into());
     }
     let kept = jobs.iter().filter(|job| job.optional > 0 && marks[job.position] == 1).count() as u32;
-    let holders = if nested { in_nest(&jobs, &marks) } else { in_sequence(&jobs, &marks) };
-    Ok(Ok(Best { marks, kept, discarded, runs: stretches(&jobs, &holders) }))
+    let ticks = if nested { in_nest(&jobs, &marks) } else { in_sequence(&jobs, &marks) };
+    Ok(Ok(Best { marks, kept, discarded, runs: stretches(&jobs, &ticks) }))
 }

@@ -58,6 +58,7 @@ extern "C" {
     fn planner_plan(
         file: *const u8,
         file_length: usize,
+        launch: u32,
         marks: *mut u8,
         marks_length: usize,
         starts: *mut u32,
@@ -70,6 +71,7 @@ extern "C" {
     fn planner_judge(
         file: *const u8,
         file_length: usize,
+        launch: u32,
         marks: *const u8,
         marks_length: usize,
         starts: *const u32,
@@ -93,23 +95,28 @@ extern "C" {
 
 // No call has a precondition. A slice's pointer is never null, and slices that are lent by `&mut` don't overlap others.
 
+/// Reading.
 pub fn read(file: &[u8]) -> TableRead {
     unsafe { planner_read(file.as_ptr(), file.len()) }
 }
 
+/// Writing.
 pub fn write(table: &Table, out: &mut [u8]) -> Written {
     unsafe { planner_write(*table, out.as_mut_ptr(), out.len()) }
 }
 
+/// Moving by a signed number of frames.
 pub fn shift(file: &[u8], frames: i32, out: &mut [u8]) -> Written {
     unsafe { planner_shift(file.as_ptr(), file.len(), frames, out.as_mut_ptr(), out.len()) }
 }
 
-pub fn plan(file: &[u8], marks: &mut [u8], starts: &mut [u32], ends: &mut [u32], tasks: &mut [u32]) -> Planned {
+/// Planning at a launch tick.
+pub fn plan(file: &[u8], launch: u32, marks: &mut [u8], starts: &mut [u32], ends: &mut [u32], tasks: &mut [u32]) -> Planned {
     unsafe {
         planner_plan(
             file.as_ptr(),
             file.len(),
+            launch,
             marks.as_mut_ptr(),
             marks.len(),
             starts.as_mut_ptr(),
@@ -122,11 +129,13 @@ pub fn plan(file: &[u8], marks: &mut [u8], starts: &mut [u32], ends: &mut [u32],
     }
 }
 
-pub fn judge(file: &[u8], marks: &[u8], starts: &[u32], ends: &[u32], tasks: &[u32]) -> Judged {
+/// Judging at a launch tick.
+pub fn judge(file: &[u8], launch: u32, marks: &[u8], starts: &[u32], ends: &[u32], tasks: &[u32]) -> Judged {
     unsafe {
         planner_judge(
             file.as_ptr(),
             file.len(),
+            launch,
             marks.as_ptr(),
             marks.len(),
             starts.as_ptr(),
@@ -139,6 +148,7 @@ pub fn judge(file: &[u8], marks: &[u8], starts: &[u32], ends: &[u32], tasks: &[u
     }
 }
 
+/// The busy count of the interval from a to b.
 pub fn busy(starts: &[u32], ends: &[u32], tasks: &[u32], a: u32, b: u32) -> BusyCount {
     unsafe { planner_busy(starts.as_ptr(), starts.len(), ends.as_ptr(), ends.len(), tasks.as_ptr(), tasks.len(), a, b) }
 }
@@ -200,6 +210,7 @@ pub(crate) struct Addresses {
     pub busy: usize,
 }
 
+/// The addresses of the six calls.
 pub(crate) fn addresses() -> Addresses {
     Addresses {
         read: planner_read as *const () as usize,

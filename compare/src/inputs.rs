@@ -1,7 +1,7 @@
 //! Tables, files and run lists made at random: valid ones, and ones that are damaged.
 
 use crate::random::Random;
-use crate::reference::{self, deadline_tick, release_tick, Kind, Table, Task, LAST_FRAME, MAX_PERIOD, MAX_TASKS, MAX_TICKS};
+use crate::reference::{self, Clock, Kind, Table, Task, LAST_FRAME, MAX_LAUNCH, MAX_PERIOD, MAX_TASKS, MAX_TICKS};
 
 /// How the lengths of a table's parts compare with the ticks that its windows have.
 #[derive(Clone, Copy, Debug, PartialEq, Eq)]
@@ -42,6 +42,28 @@ pub fn period(random: &mut Random) -> (u32, u32) {
             let q = random.between(1, p);
             (p, q)
         }
+    }
+}
+
+/// A launch tick that is accepted: 0 often, small ones, the last one, and any.
+pub fn accepted_launch(random: &mut Random) -> u32 {
+    match random.up_to(7) {
+        0..=2 => 0,
+        3 => random.up_to(200),
+        4 => MAX_LAUNCH - random.up_to(1),
+        _ => random.up_to(MAX_LAUNCH),
+    }
+}
+
+/// A launch tick, one in eight of them not accepted: just above the last one, the greatest number, or any between.
+pub fn launch(random: &mut Random) -> u32 {
+    if !random.once_in(8) {
+        return accepted_launch(random);
+    }
+    match random.up_to(2) {
+        0 => MAX_LAUNCH + 1,
+        1 => u32::MAX,
+        _ => random.between(MAX_LAUNCH + 1, u32::MAX),
     }
 }
 
@@ -163,11 +185,12 @@ pub fn shaped_table(random: &mut Random, n: usize, (p, q): (u32, u32), shape: Sh
         }
     }
     let mut table = Table { count: n as u32, p, q, ..Table::ZERO };
+    let clock = Clock { p, q, launch: 0 };
     // What the tasks so far use: of nested windows so many ticks, of similar ones all ticks before this one.
     let mut used = 0;
     let few = random.between(1, 4);
     for (&(release, deadline), &position) in windows.iter().zip(&positions) {
-        let (from, to) = (release_tick(release, p, q), deadline_tick(deadline, p, q));
+        let (from, to) = (clock.release(release), clock.deadline(deadline));
         let ticks = to.saturating_sub(from);
         if shape == Shape::Similar {
             used = used.max(from);
@@ -316,6 +339,7 @@ pub fn file(random: &mut Random) -> Vec<u8> {
     }
 }
 
+/// Damages a file: its length, one of its bits or one of its bytes.
 fn damage(random: &mut Random, file: &mut Vec<u8>) {
     let length = file.len();
     match random.up_to(7) {
@@ -371,12 +395,14 @@ pub struct Columns {
 }
 
 impl Columns {
+    /// Adds a run behind the others.
     pub fn push(&mut self, (start, end, task): (u32, u32, u32)) {
         self.starts.push(start);
         self.ends.push(end);
         self.tasks.push(task);
     }
 
+    /// The columns of a list of runs.
     fn from_runs(runs: &[(u32, u32, u32)]) -> Columns {
         let mut columns = Columns::default();
         runs.iter().for_each(|&run| columns.push(run));
@@ -384,9 +410,10 @@ impl Columns {
     }
 }
 
-/// A running of a table that need not follow the placing rule, for a keep list made by dropping parts of the planner's own at random. The list is given
-/// as marks. Nested tasks get the earliest free ticks, in nest order; similar ones run as late as they can, from the last in similar order back.
-fn other_running(random: &mut Random, table: &Table, marks: &mut [u8]) -> Vec<(u32, u32, u32)> {
+/// A running of a table at a launch tick that need not follow the placing rule, for a keep list made by dropping parts of the planner's own at random.
+/// The list is given as marks. Nested tasks get the earliest free ticks, in nest order; similar ones run as late as they can, from the last in similar
+/// order back.
+fn other_running(random: &mut Random, table: &Table, launch: u32, marks: &mut [u8]) -> Vec<(u32, u32, u32)> {
     for mark in marks.iter_mut() {
         if random.once_in(4) {
             *mark = 0;
@@ -395,25 +422,26 @@ fn other_running(random: &mut Random, table: &Table, marks: &mut [u8]) -> Vec<(u
     let mut order: Vec<usize> = (0..table.count as usize).collect();
     if reference::check_windows(table.tasks()) == Ok(Kind::Similar) {
         order.sort_by_key(|&k| (table.tasks[k].release, table.tasks[k].deadline));
-        return latest_runs(table, marks, &order);
+        return latest_runs(table, launch, marks, &order);
     }
     order.sort_by_key(|&k| table.tasks[k].deadline - table.tasks[k].release);
-    earliest_runs(table, marks, &order)
+    earliest_runs(table, launch, marks, &order)
 }
 
-/// A task's work under some marks, and its window in ticks.
-fn job(table: &Table, marks: &[u8], k: usize) -> (u32, u32, u32) {
+/// A task's work under some marks, and its window in ticks at a launch tick.
+fn job(table: &Table, launch: u32, marks: &[u8], k: usize) -> (u32, u32, u32) {
     let task = table.tasks[k];
+    let clock = table.clock(launch);
     let work = task.mandatory + if marks[k] == 1 { task.optional } else { 0 };
-    (work, release_tick(task.release, table.p, table.q), deadline_tick(task.deadline, table.p, table.q))
+    (work, clock.release(task.release), clock.deadline(task.deadline))
 }
 
 /// Each task from the last of an order back runs in one stretch, as late as it can before those behind it.
-fn latest_runs(table: &Table, marks: &[u8], order: &[usize]) -> Vec<(u32, u32, u32)> {
+fn latest_runs(table: &Table, launch: u32, marks: &[u8], order: &[usize]) -> Vec<(u32, u32, u32)> {
     let mut runs = Vec::new();
     let mut until = u32::MAX;
     for &k in order.iter().rev() {
-        let (work, _, deadline) = job(table, marks, k);
+        let (work, _, deadline) = job(table, launch, marks, k);
         if work > 0 {
             let end = until.min(deadline);
             until = end.saturating_sub(work);
@@ -425,10 +453,10 @@ fn latest_runs(table: &Table, marks: &[u8], order: &[usize]) -> Vec<(u32, u32, u
 }
 
 /// Each task of an order gets the earliest free ticks of its window.
-fn earliest_runs(table: &Table, marks: &[u8], order: &[usize]) -> Vec<(u32, u32, u32)> {
+fn earliest_runs(table: &Table, launch: u32, marks: &[u8], order: &[usize]) -> Vec<(u32, u32, u32)> {
     let mut runs: Vec<(u32, u32, u32)> = Vec::new();
     for &k in order {
-        let (mut work, mut from, deadline) = job(table, marks, k);
+        let (mut work, mut from, deadline) = job(table, launch, marks, k);
         let mut at = 0;
         while work > 0 && from < deadline {
             let to = runs.get(at).map_or(deadline, |run| run.0);
@@ -448,24 +476,47 @@ fn earliest_runs(table: &Table, marks: &[u8], order: &[usize]) -> Vec<(u32, u32,
     runs
 }
 
-/// A file, a keep list and run columns for the judge: plans, other runnings, and ones that were damaged.
-pub fn judgement(random: &mut Random) -> (Vec<u8>, Vec<u8>, Columns) {
+/// What the judge gets.
+#[derive(Clone, Debug)]
+pub struct Judgement {
+    pub file: Vec<u8>,
+    pub launch: u32,
+    pub marks: Vec<u8>,
+    pub columns: Columns,
+}
+
+/// The launch tick for the judge of what was made at a launch tick: mostly the same, else the one beside it, 0 or any.
+fn judged_launch(random: &mut Random, made: u32) -> u32 {
+    match random.up_to(23) {
+        0 => made + 1,
+        1 => made.saturating_sub(1),
+        2 => 0,
+        3..=5 => launch(random),
+        _ => made,
+    }
+}
+
+/// A file, a launch tick, a keep list and run columns for the judge: plans, other runnings, and ones that were damaged, made at the launch tick or at
+/// another one.
+pub fn judgement(random: &mut Random) -> Judgement {
     let mut file = file(random);
+    let made = accepted_launch(random);
+    let launch = judged_launch(random, made);
     let Ok(table) = reference::read(&file) else {
         let n = random.up_to(70) as usize;
         let runs = random.up_to(70) as usize;
-        return (file, random.bytes(n), random_columns(random, runs));
+        return Judgement { file, launch, marks: random.bytes(n), columns: random_columns(random, runs) };
     };
     let n = table.count as usize;
     let mut marks = vec![0; n];
     let (mut starts, mut ends, mut tasks) = (vec![0; 2 * n - 1], vec![0; 2 * n - 1], vec![0; 2 * n - 1]);
-    let planned = reference::plan(&file, &mut marks, &mut starts, &mut ends, &mut tasks);
+    let planned = reference::plan(&file, made, &mut marks, &mut starts, &mut ends, &mut tasks);
     let mut runs: Vec<(u32, u32, u32)> = match planned {
         Ok(plan) => (0..plan.runs).map(|i| (starts[i], ends[i], tasks[i])).collect(),
         Err(_) => (0..random.up_to(9)).map(|_| (random.any(), random.any(), random.up_to(n as u32))).collect(),
     };
     if planned.is_ok() && random.once_in(3) {
-        runs = other_running(random, &table, &mut marks);
+        runs = other_running(random, &table, made, &mut marks);
     }
     for (mark, task) in marks.iter_mut().zip(table.tasks()) {
         if task.optional == 0 && random.once_in(2) {
@@ -495,7 +546,7 @@ pub fn judgement(random: &mut Random) -> (Vec<u8>, Vec<u8>, Columns) {
     if random.once_in(40) {
         damage(random, &mut file);
     }
-    (file, marks, columns)
+    Judgement { file, launch, marks, columns }
 }
 
 /// Cuts runs in two; the two then touch.
@@ -514,6 +565,7 @@ fn split(random: &mut Random, runs: &mut Vec<(u32, u32, u32)>) {
     }
 }
 
+/// Damages a run list of a table of n tasks in one place.
 fn damage_runs(random: &mut Random, runs: &mut Vec<(u32, u32, u32)>, n: u32) {
     if runs.is_empty() {
         runs.push((random.any(), random.any(), random.up_to(n)));

@@ -11,6 +11,7 @@ impl Random {
         Random((z ^ (z >> 31)) | 1)
     }
 
+    /// The next 64 bits.
     pub fn word(&mut self) -> u64 {
         self.0 ^= self.0 >> 12;
         self.0 ^= self.0 << 25;
@@ -38,6 +39,7 @@ impl Random {
         self.up_to(n - 1) == 0
     }
 
+    /// One element of a list that is not empty.
     pub fn pick<T: Copy>(&mut self, from: &[T]) -> T {
         from[self.index(from.len())]
     }
@@ -52,6 +54,7 @@ impl Random {
         }
     }
 
+    /// A list of bytes of any content.
     pub fn bytes(&mut self, length: usize) -> Vec<u8> {
         (0..length).map(|_| self.word() as u8).collect()
     }

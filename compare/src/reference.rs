@@ -1,5 +1,5 @@
 //! The independent implementation: reading, writing, moving, planning, judging and the busy count, written from the rules of documents 01 and 02
-//! (request 1) and not from the proved library. Only std, no unsafe code.
+//! (requests 1 and 2) and not from the proved library. Only std, no unsafe code.
 
 use std::cmp::Ordering;
 use std::collections::VecDeque;
@@ -9,6 +9,7 @@ pub const MAX_RUNS: usize = 4096;
 pub const LAST_FRAME: u32 = 131_071;
 pub const MAX_PERIOD: u32 = 4_095;
 pub const MAX_TICKS: u32 = 16_383;
+pub const MAX_LAUNCH: u32 = 86_399_999;
 
 const COUNT_BITS: u32 = 7;
 const PERIOD_BITS: u32 = 12;
@@ -45,6 +46,11 @@ impl Table {
     pub fn tasks(&self) -> &[Task] {
         &self.tasks[..self.count as usize]
     }
+
+    /// The frame clock of the table's period at a launch tick.
+    pub fn clock(&self, launch: u32) -> Clock {
+        Clock { p: self.p, q: self.q, launch }
+    }
 }
 
 /// A refusal: its number and its place.
@@ -54,6 +60,7 @@ pub struct Refusal {
     pub place: usize,
 }
 
+/// The reply of a call that refuses.
 fn refuse<T>(number: u32, place: usize) -> Result<T, Refusal> {
     Err(Refusal { number, place })
 }
@@ -76,14 +83,32 @@ pub struct Verdict {
 
 // ---- the frame clock
 
-/// The least tick not before `frame` × p / q.
-pub fn release_tick(frame: u32, p: u32, q: u32) -> u32 {
-    (frame * p).div_ceil(q)
+/// The clock of a period p/q: it adds the launch tick to every tick that it gives.
+#[derive(Clone, Copy, Debug)]
+pub struct Clock {
+    pub p: u32,
+    pub q: u32,
+    pub launch: u32,
 }
 
-/// The greatest tick not after `frame` × p / q.
-pub fn deadline_tick(frame: u32, p: u32, q: u32) -> u32 {
-    frame * p / q
+impl Clock {
+    /// The least tick not before `frame` × p / q, counted from the launch tick.
+    pub fn release(&self, frame: u32) -> u32 {
+        self.launch + (frame * self.p).div_ceil(self.q)
+    }
+
+    /// The greatest tick not after `frame` × p / q, counted from the launch tick.
+    pub fn deadline(&self, frame: u32) -> u32 {
+        self.launch + frame * self.p / self.q
+    }
+}
+
+/// Refusal 14.
+fn check_launch(launch: u32) -> Result<(), Refusal> {
+    if launch > MAX_LAUNCH {
+        return refuse(14, 0);
+    }
+    Ok(())
 }
 
 // ---- the table file
@@ -101,10 +126,12 @@ struct BitReader<'a> {
 }
 
 impl<'a> BitReader<'a> {
+    /// Begins at the first bit.
     fn new(bytes: &'a [u8]) -> Self {
         BitReader { bytes: bytes.iter(), held: 0, bits: 0 }
     }
 
+    /// The next field; bits behind the last byte are 0.
     fn take(&mut self, width: u32) -> u32 {
         while self.bits < width {
             let byte = self.bytes.next().copied().unwrap_or(0);
@@ -124,10 +151,12 @@ struct BitWriter<'a> {
 }
 
 impl<'a> BitWriter<'a> {
+    /// Begins at the first bit.
     fn new(bytes: &'a mut [u8]) -> Self {
         BitWriter { bytes: bytes.iter_mut(), held: 0, bits: 0 }
     }
 
+    /// Puts a field behind the others; what has no place is lost.
     fn put(&mut self, width: u32, value: u32) {
         self.held = self.held << width | u64::from(value);
         self.bits += width;
@@ -147,10 +176,12 @@ impl<'a> BitWriter<'a> {
     }
 }
 
+/// Refusal 2.
 fn bad_count(count: u32) -> bool {
     count == 0 || count as usize > MAX_TASKS
 }
 
+/// Refusal 5.
 fn bad_period(p: u32, q: u32) -> bool {
     !(1..=MAX_PERIOD).contains(&p) || !(1..=MAX_PERIOD).contains(&q) || p < q
 }
@@ -162,6 +193,7 @@ pub enum Kind {
     Similar,
 }
 
+/// The inner window lies in the outer one, in frames.
 fn contains(outer: &Task, inner: &Task) -> bool {
     outer.release <= inner.release && inner.deadline <= outer.deadline
 }
@@ -309,6 +341,7 @@ struct Job {
 }
 
 impl Job {
+    /// The mandatory ticks, and the optional ones where they are kept.
     fn work(&self, kept: bool) -> u32 {
         self.mandatory + if kept { self.optional } else { 0 }
     }
@@ -326,9 +359,10 @@ impl Job {
 }
 
 /// The tasks in the order of the table's kind, the lower position first among equals, and how many there are. Nest order: the window with fewer frames
-/// first. Similar order: by release frame, then deadline frame.
-fn in_order(table: &Table, kind: Kind) -> ([Job; MAX_TASKS], usize) {
+/// first. Similar order: by release frame, then deadline frame. Their ticks are those at the launch tick.
+fn in_order(table: &Table, kind: Kind, launch: u32) -> ([Job; MAX_TASKS], usize) {
     let n = table.count as usize;
+    let clock = table.clock(launch);
     let mut order = [(0, 0); MAX_TASKS];
     for (k, task) in table.tasks().iter().enumerate() {
         let key = match kind {
@@ -343,8 +377,8 @@ fn in_order(table: &Table, kind: Kind) -> ([Job; MAX_TASKS], usize) {
         let task = table.tasks[position];
         *job = Job {
             position,
-            release: release_tick(task.release, table.p, table.q),
-            deadline: deadline_tick(task.deadline, table.p, table.q),
+            release: clock.release(task.release),
+            deadline: clock.deadline(task.deadline),
             mandatory: task.mandatory,
             optional: task.optional,
         };
@@ -529,10 +563,11 @@ fn place_similar(jobs: &[Job], kept: &[bool; MAX_TASKS]) -> Vec<Run> {
     runs
 }
 
-/// Planning: marks by position, runs by start.
-pub fn plan(file: &[u8], marks: &mut [u8], starts: &mut [u32], ends: &mut [u32], tasks: &mut [u32]) -> Result<Plan, Refusal> {
+/// Planning at a launch tick: marks by position, runs by start.
+pub fn plan(file: &[u8], launch: u32, marks: &mut [u8], starts: &mut [u32], ends: &mut [u32], tasks: &mut [u32]) -> Result<Plan, Refusal> {
     let (table, kind) = read_with_kind(file)?;
-    let (jobs, n) = in_order(&table, kind);
+    check_launch(launch)?;
+    let (jobs, n) = in_order(&table, kind, launch);
     let jobs = &jobs[..n];
     let unmet = match kind {
         Kind::Nested => first_exceeding(jobs),
@@ -579,12 +614,14 @@ fn check_columns(starts: &[u32], ends: &[u32], tasks: &[u32]) -> Result<(), Refu
     Ok(())
 }
 
-/// The runs follow one another in time, none is empty, each is inside the window of its task, and each task's runs total its work.
-fn is_running(table: &Table, marks: &[u8], starts: &[u32], ends: &[u32], tasks: &[u32]) -> bool {
+/// The runs follow one another in time, none is empty, each is inside the window that its task has at the launch tick, and each task's runs total its
+/// work.
+fn is_running(table: &Table, launch: u32, marks: &[u8], starts: &[u32], ends: &[u32], tasks: &[u32]) -> bool {
+    let clock = table.clock(launch);
     let mut windows = [(0, 0); MAX_TASKS];
     let mut missing = [0; MAX_TASKS];
     for (k, (task, &mark)) in table.tasks().iter().zip(marks).enumerate() {
-        windows[k] = (release_tick(task.release, table.p, table.q), deadline_tick(task.deadline, table.p, table.q));
+        windows[k] = (clock.release(task.release), clock.deadline(task.deadline));
         missing[k] = task.mandatory + u32::from(mark) * task.optional;
     }
     let n = table.count as usize;
@@ -604,9 +641,10 @@ fn is_running(table: &Table, marks: &[u8], starts: &[u32], ends: &[u32], tasks: 
     missing[..n].iter().all(|&ticks| ticks == 0)
 }
 
-/// Judging.
-pub fn judge(file: &[u8], marks: &[u8], starts: &[u32], ends: &[u32], tasks: &[u32]) -> Result<Verdict, Refusal> {
+/// Judging at a launch tick.
+pub fn judge(file: &[u8], launch: u32, marks: &[u8], starts: &[u32], ends: &[u32], tasks: &[u32]) -> Result<Verdict, Refusal> {
     let table = read(file)?;
+    check_launch(launch)?;
     let n = table.count as usize;
     if marks.len() != n {
         return refuse(11, n);
@@ -615,7 +653,7 @@ pub fn judge(file: &[u8], marks: &[u8], starts: &[u32], ends: &[u32], tasks: &[u
         return refuse(11, k);
     }
     check_columns(starts, ends, tasks)?;
-    if !is_running(&table, marks, starts, ends, tasks) {
+    if !is_running(&table, launch, marks, starts, ends, tasks) {
         return Ok(Verdict { yes: false, kept: 0, discarded: 0 });
     }
     let (mut kept, mut discarded) = (0, 0);

@@ -50,12 +50,14 @@ unsafe fn call(function: usize, registers: [usize; 6], on_stack: &[u64]) -> Use 
     Use { own: 8 * (top - lowest), arguments: 8 * on_stack.len() }
 }
 
+/// The stack of reading.
 pub fn read(file: &[u8]) -> Use {
     let mut reply = MaybeUninit::<TableRead>::uninit();
     let registers = [reply.as_mut_ptr() as usize, file.as_ptr() as usize, file.len(), 0, 0, 0];
     unsafe { call(ffi::addresses().read, registers, &[]) }
 }
 
+/// The stack of writing; the table is passed in memory.
 pub fn write(table: &Table, out: &mut [u8]) -> Use {
     let mut reply = MaybeUninit::<Written>::uninit();
     let mut words = [0u64; size_of::<Table>().div_ceil(8)];
@@ -64,27 +66,31 @@ pub fn write(table: &Table, out: &mut [u8]) -> Use {
     unsafe { call(ffi::addresses().write, registers, &words) }
 }
 
+/// The stack of moving.
 pub fn shift(file: &[u8], frames: i32, out: &mut [u8]) -> Use {
     let mut reply = MaybeUninit::<Written>::uninit();
     let registers = [reply.as_mut_ptr() as usize, file.as_ptr() as usize, file.len(), frames as u32 as usize, out.as_mut_ptr() as usize, out.len()];
     unsafe { call(ffi::addresses().shift, registers, &[]) }
 }
 
-pub fn plan(file: &[u8], marks: &mut [u8], starts: &mut [u32], ends: &mut [u32], tasks: &mut [u32]) -> Use {
+/// The stack of planning; the columns are passed in memory.
+pub fn plan(file: &[u8], launch: u32, marks: &mut [u8], starts: &mut [u32], ends: &mut [u32], tasks: &mut [u32]) -> Use {
     let mut reply = MaybeUninit::<Planned>::uninit();
-    let registers =
-        [reply.as_mut_ptr() as usize, file.as_ptr() as usize, file.len(), marks.as_mut_ptr() as usize, marks.len(), starts.as_mut_ptr() as usize];
-    let words = [starts.len() as u64, ends.as_mut_ptr() as u64, ends.len() as u64, tasks.as_mut_ptr() as u64, tasks.len() as u64];
+    let registers = [reply.as_mut_ptr() as usize, file.as_ptr() as usize, file.len(), launch as usize, marks.as_mut_ptr() as usize, marks.len()];
+    let words =
+        [starts.as_mut_ptr() as u64, starts.len() as u64, ends.as_mut_ptr() as u64, ends.len() as u64, tasks.as_mut_ptr() as u64, tasks.len() as u64];
     unsafe { call(ffi::addresses().plan, registers, &words) }
 }
 
-pub fn judge(file: &[u8], marks: &[u8], starts: &[u32], ends: &[u32], tasks: &[u32]) -> Use {
+/// The stack of judging; the columns are passed in memory.
+pub fn judge(file: &[u8], launch: u32, marks: &[u8], starts: &[u32], ends: &[u32], tasks: &[u32]) -> Use {
     let mut reply = MaybeUninit::<Judged>::uninit();
-    let registers = [reply.as_mut_ptr() as usize, file.as_ptr() as usize, file.len(), marks.as_ptr() as usize, marks.len(), starts.as_ptr() as usize];
-    let words = [starts.len() as u64, ends.as_ptr() as u64, ends.len() as u64, tasks.as_ptr() as u64, tasks.len() as u64];
+    let registers = [reply.as_mut_ptr() as usize, file.as_ptr() as usize, file.len(), launch as usize, marks.as_ptr() as usize, marks.len()];
+    let words = [starts.as_ptr() as u64, starts.len() as u64, ends.as_ptr() as u64, ends.len() as u64, tasks.as_ptr() as u64, tasks.len() as u64];
     unsafe { call(ffi::addresses().judge, registers, &words) }
 }
 
+/// The stack of the busy count; what comes behind the address of the tasks is passed in memory.
 pub fn busy(starts: &[u32], ends: &[u32], tasks: &[u32], a: u32, b: u32) -> Use {
     let mut reply = MaybeUninit::<BusyCount>::uninit();
     let registers =

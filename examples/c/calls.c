@@ -20,11 +20,16 @@ static const struct planner_table turns = {
     .tasks = {{0, 6, 2, 3}, {3, 9, 2, 3}, {7, 12, 1, 2}},
 };
 
+/* Noon, in ticks of the day: 12 hours of 3600000. */
+static const uint32_t noon = 43200000;
+
+/* The reply of writing and moving. */
 static void show_written(const char *what, struct planner_written reply)
 {
     printf("%s: %" PRIu32 " %zu %zu\n", what, reply.number, reply.place, reply.bytes);
 }
 
+/* The reply of reading, with the tasks up to the count and any place beyond it that is not 0. */
 static void show_read(const char *what, struct planner_table_read reply)
 {
     printf("%s: %" PRIu32 " %zu, %" PRIu32 " %" PRIu32 " %" PRIu32, what, reply.number, reply.place, reply.table.count, reply.table.p,
@@ -38,29 +43,45 @@ static void show_read(const char *what, struct planner_table_read reply)
     printf("\n");
 }
 
+/* The reply of planning, on a line that is not yet ended. */
+static void show_plan_reply(const char *what, struct planner_planned reply)
+{
+    printf("%s: %" PRIu32 " %zu %" PRIu32 " %" PRIu32 " %zu", what, reply.number, reply.place, reply.kept, reply.discarded, reply.runs);
+}
+
+/* A planning that refuses: the reply alone. */
+static void show_unplanned(const char *what, struct planner_planned reply)
+{
+    show_plan_reply(what, reply);
+    printf("\n");
+}
+
 /* The plan of three tasks: the reply, the marks and the runs. */
 static void show_planned(const char *what, struct planner_planned reply, const uint8_t *marks, const uint32_t *starts, const uint32_t *ends,
                          const uint32_t *tasks)
 {
-    printf("%s: %" PRIu32 " %zu %" PRIu32 " %" PRIu32 " %zu, %d %d %d", what, reply.number, reply.place, reply.kept, reply.discarded, reply.runs,
-           marks[0], marks[1], marks[2]);
+    show_plan_reply(what, reply);
+    printf(", %d %d %d", marks[0], marks[1], marks[2]);
     for (size_t i = 0; i < reply.runs; i++) {
         printf(", %" PRIu32 " %" PRIu32 " %" PRIu32, starts[i], ends[i], tasks[i]);
     }
     printf("\n");
 }
 
+/* The reply of judging. */
 static void show_judged(const char *what, struct planner_judged reply)
 {
     printf("%s: %" PRIu32 " %zu %s %" PRIu32 " %" PRIu32 "\n", what, reply.number, reply.place, reply.yes ? "yes" : "no", reply.kept,
            reply.discarded);
 }
 
+/* The reply of the busy count. */
 static void show_busy(const char *what, struct planner_busy_count reply)
 {
     printf("%s: %" PRIu32 " %zu %" PRIu64 "\n", what, reply.number, reply.place, reply.ticks);
 }
 
+/* The calls, one after another, on the two tables. */
 int main(void)
 {
     uint8_t file[PLANNER_FILE_LENGTH(3)];
@@ -83,11 +104,17 @@ int main(void)
     show_read("read what was moved", planner_read(moved, sizeof moved));
     show_written("shift by -1", planner_shift(file, sizeof file, -1, moved, sizeof moved));
 
-    struct planner_planned plan = planner_plan(file, sizeof file, marks, 3, starts, 5, ends, 5, tasks, 5);
+    struct planner_planned plan = planner_plan(file, sizeof file, 0, marks, 3, starts, 5, ends, 5, tasks, 5);
     show_planned("plan", plan, marks, starts, ends, tasks);
-    struct planner_planned refused = planner_plan(file, sizeof file, marks, 2, starts, 5, ends, 5, tasks, 5);
-    printf("plan with 2 marks: %" PRIu32 " %zu %" PRIu32 " %" PRIu32 " %zu\n", refused.number, refused.place, refused.kept, refused.discarded,
-           refused.runs);
+    show_unplanned("plan with 2 marks", planner_plan(file, sizeof file, 0, marks, 2, starts, 5, ends, 5, tasks, 5));
+    show_unplanned("plan at launch 86400000", planner_plan(file, sizeof file, PLANNER_MAX_LAUNCH + 1, marks, 3, starts, 5, ends, 5, tasks, 5));
+
+    uint8_t noon_marks[3];
+    uint32_t noon_starts[PLANNER_PLAN_RUNS(3)];
+    uint32_t noon_ends[PLANNER_PLAN_RUNS(3)];
+    uint32_t noon_tasks[PLANNER_PLAN_RUNS(3)];
+    struct planner_planned later = planner_plan(file, sizeof file, noon, noon_marks, 3, noon_starts, 5, noon_ends, 5, noon_tasks, 5);
+    show_planned("plan at launch 43200000", later, noon_marks, noon_starts, noon_ends, noon_tasks);
 
     struct planner_table neither = turns;
     neither.tasks[2].release = 4;
@@ -98,12 +125,18 @@ int main(void)
     uint32_t turn_starts[PLANNER_PLAN_RUNS(3)];
     uint32_t turn_ends[PLANNER_PLAN_RUNS(3)];
     uint32_t turn_tasks[PLANNER_PLAN_RUNS(3)];
-    struct planner_planned second = planner_plan(moved, sizeof moved, turn_marks, 3, turn_starts, 5, turn_ends, 5, turn_tasks, 5);
+    struct planner_planned second = planner_plan(moved, sizeof moved, 0, turn_marks, 3, turn_starts, 5, turn_ends, 5, turn_tasks, 5);
     show_planned("plan similar windows", second, turn_marks, turn_starts, turn_ends, turn_tasks);
 
-    show_judged("judge", planner_judge(file, sizeof file, marks, 3, starts, 5, ends, 5, tasks, 5));
-    show_judged("judge without the last run", planner_judge(file, sizeof file, marks, 3, starts, 4, ends, 4, tasks, 4));
-    show_judged("judge with 2 marks", planner_judge(file, sizeof file, marks, 2, starts, 5, ends, 5, tasks, 5));
+    show_judged("judge", planner_judge(file, sizeof file, 0, marks, 3, starts, 5, ends, 5, tasks, 5));
+    show_judged("judge without the last run", planner_judge(file, sizeof file, 0, marks, 3, starts, 4, ends, 4, tasks, 4));
+    show_judged("judge with 2 marks", planner_judge(file, sizeof file, 0, marks, 2, starts, 5, ends, 5, tasks, 5));
+
+    const char *at_noon = "judge the plan of launch 43200000 at that launch";
+    show_judged(at_noon, planner_judge(file, sizeof file, noon, noon_marks, 3, noon_starts, 5, noon_ends, 5, noon_tasks, 5));
+    const char *at_0 = "judge the plan of launch 43200000 at launch 0";
+    show_judged(at_0, planner_judge(file, sizeof file, 0, noon_marks, 3, noon_starts, 5, noon_ends, 5, noon_tasks, 5));
+    show_judged("judge at launch 86400000", planner_judge(file, sizeof file, PLANNER_MAX_LAUNCH + 1, marks, 3, starts, 5, ends, 5, tasks, 5));
 
     show_busy("busy from 3 to 9", planner_busy(starts, 5, ends, 5, tasks, 5, 3, 9));
     show_busy("busy with columns of unequal length", planner_busy(starts, 5, ends, 4, tasks, 5, 3, 9));

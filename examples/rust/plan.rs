@@ -1,5 +1,6 @@
-//! Plans the table file that is named on the command line, and prints the plan.
+//! Plans the table file that is named on the command line, at the launch tick behind it or at 0, and prints the plan.
 
+use std::ffi::{OsStr, OsString};
 use std::process::ExitCode;
 
 /// The planning call of the proved library, in a safe function.
@@ -22,6 +23,7 @@ mod planner {
         fn planner_plan(
             file: *const u8,
             file_length: usize,
+            launch: u32,
             marks: *mut u8,
             marks_length: usize,
             starts: *mut u32,
@@ -40,6 +42,7 @@ mod planner {
         pub task: u32,
     }
 
+    /// What an accepted call gives.
     pub struct Plan {
         pub kept: u32,
         pub discarded: u32,
@@ -49,13 +52,14 @@ mod planner {
         pub runs: Vec<Run>,
     }
 
+    /// A refusal: its number and its place.
     pub struct Refusal {
         pub number: u32,
         pub place: usize,
     }
 
-    /// The plan of a table file. Any bytes will do.
-    pub fn plan(file: &[u8]) -> Result<Plan, Refusal> {
+    /// The plan of a table file at a launch tick. Any bytes and any tick will do.
+    pub fn plan(file: &[u8], launch: u32) -> Result<Plan, Refusal> {
         let mut marks = [0; MAX_TASKS];
         let (mut starts, mut ends, mut tasks) = ([0; MAX_PLAN_RUNS], [0; MAX_PLAN_RUNS], [0; MAX_PLAN_RUNS]);
         // The call has no precondition: the pointers come from slices, and those lent for writing are apart.
@@ -63,6 +67,7 @@ mod planner {
             planner_plan(
                 file.as_ptr(),
                 file.len(),
+                launch,
                 marks.as_mut_ptr(),
                 marks.len(),
                 starts.as_mut_ptr(),
@@ -87,19 +92,39 @@ mod planner {
     }
 }
 
+/// The number that a text of digits gives, if it has at most 32 bits.
+fn ticks_of(text: &OsStr) -> Option<u32> {
+    let text = text.to_str()?;
+    // `parse` accepts a plus sign too.
+    if text.starts_with('+') {
+        return None;
+    }
+    text.parse().ok()
+}
+
+/// Prints the plan and ends with status 0, or the refusal and ends with 1. Wrong arguments and files that can't be read end with 2.
 fn main() -> ExitCode {
-    let Some(name) = std::env::args_os().nth(1) else {
-        eprintln!("usage: plan FILE");
+    let arguments: Vec<OsString> = std::env::args_os().skip(1).collect();
+    let (name, launch) = match arguments.as_slice() {
+        [name] => (name, Some(0)),
+        [name, ticks] => (name, ticks_of(ticks)),
+        _ => {
+            eprintln!("usage: plan FILE [TICKS]");
+            return ExitCode::from(2);
+        }
+    };
+    let Some(launch) = launch else {
+        eprintln!("plan: '{}' is no number of ticks from 0 to {}", arguments[1].to_string_lossy(), u32::MAX);
         return ExitCode::from(2);
     };
-    let file = match std::fs::read(&name) {
+    let file = match std::fs::read(name) {
         Ok(file) => file,
         Err(error) => {
             eprintln!("{}: {error}", name.to_string_lossy());
             return ExitCode::from(2);
         }
     };
-    match planner::plan(&file) {
+    match planner::plan(&file, launch) {
         Err(refusal) => {
             println!("REFUSED {} {}", refusal.number, refusal.place);
             ExitCode::from(1)

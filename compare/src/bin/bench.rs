@@ -12,6 +12,8 @@ use std::hint::black_box;
 const BATCHES: usize = 101;
 /// About how many microseconds one batch takes.
 const BATCH: f64 = 500.0;
+/// The launch tick of every plan and judgement.
+const LAUNCH: u32 = 0;
 
 /// The processor time of this thread in microseconds: what other programs take meanwhile is left out.
 fn now() -> f64 {
@@ -39,6 +41,7 @@ fn time(calls: u32, call: &mut dyn FnMut()) -> f64 {
     (now() - begun) / f64::from(calls)
 }
 
+/// The median of an odd number of times.
 fn median(mut times: Vec<f64>) -> f64 {
     times.sort_by(f64::total_cmp);
     times[times.len() / 2]
@@ -66,12 +69,14 @@ fn both(mut proved: impl FnMut(), mut reference: impl FnMut()) -> (f64, f64) {
     (median(a), median(b))
 }
 
+/// Prints a line of the table: both medians, their ratio and the target for it.
 fn line(name: &str, target: f64, (proved, reference): (f64, f64)) {
     let ratio = proved / reference;
     let word = if ratio <= target { "" } else { "  above" };
     println!("{name:<74} {proved:>10.3} {reference:>10.3} {ratio:>7.2} {target:>7.1}{word}");
 }
 
+/// A table of these tasks with period 1001/10.
 fn table(tasks: &[Task]) -> Table {
     let mut table = Table { count: tasks.len() as u32, p: 1001, q: 10, ..Table::ZERO };
     table.tasks[..tasks.len()].copy_from_slice(tasks);
@@ -143,19 +148,21 @@ struct Lists {
 }
 
 impl Lists {
+    /// Lists that are long enough for every table.
     fn new() -> Lists {
         Lists { marks: vec![0xaa; 64], starts: vec![0xaaaa; 127], ends: vec![0xaaaa; 127], tasks: vec![0xaaaa; 127] }
     }
 }
 
+/// The medians of planning a file.
 fn plan(file: &[u8]) -> (f64, f64) {
     let (mut a, mut b) = (Lists::new(), Lists::new());
     both(
         || {
-            black_box(ffi::plan(black_box(file), &mut a.marks, &mut a.starts, &mut a.ends, &mut a.tasks));
+            black_box(ffi::plan(black_box(file), LAUNCH, &mut a.marks, &mut a.starts, &mut a.ends, &mut a.tasks));
         },
         || {
-            let _ = black_box(reference::plan(black_box(file), &mut b.marks, &mut b.starts, &mut b.ends, &mut b.tasks));
+            let _ = black_box(reference::plan(black_box(file), LAUNCH, &mut b.marks, &mut b.starts, &mut b.ends, &mut b.tasks));
         },
     )
 }
@@ -163,7 +170,7 @@ fn plan(file: &[u8]) -> (f64, f64) {
 /// What the plan of a table comes to, and its marks and runs.
 fn planned(table: &Table) -> (String, Vec<u8>, Columns) {
     let mut lists = Lists::new();
-    let said = ffi::plan(&inputs::pack(table), &mut lists.marks, &mut lists.starts, &mut lists.ends, &mut lists.tasks);
+    let said = ffi::plan(&inputs::pack(table), LAUNCH, &mut lists.marks, &mut lists.starts, &mut lists.ends, &mut lists.tasks);
     assert_eq!(said.number, 0);
     let columns =
         Columns { starts: lists.starts[..said.runs].to_vec(), ends: lists.ends[..said.runs].to_vec(), tasks: lists.tasks[..said.runs].to_vec() };
@@ -171,19 +178,21 @@ fn planned(table: &Table) -> (String, Vec<u8>, Columns) {
     (format!("kept {}, discarded {}, {} runs", said.kept, said.discarded, said.runs), lists.marks, columns)
 }
 
+/// Measures judging of a running that is accepted, and prints its line.
 fn judge(name: &str, file: &[u8], marks: &[u8], columns: &Columns) {
-    assert!(ffi::judge(file, marks, &columns.starts, &columns.ends, &columns.tasks).yes);
+    assert!(ffi::judge(file, LAUNCH, marks, &columns.starts, &columns.ends, &columns.tasks).yes);
     let times = both(
         || {
-            black_box(ffi::judge(black_box(file), marks, &columns.starts, &columns.ends, &columns.tasks));
+            black_box(ffi::judge(black_box(file), LAUNCH, marks, &columns.starts, &columns.ends, &columns.tasks));
         },
         || {
-            let _ = black_box(reference::judge(black_box(file), marks, &columns.starts, &columns.ends, &columns.tasks));
+            let _ = black_box(reference::judge(black_box(file), LAUNCH, marks, &columns.starts, &columns.ends, &columns.tasks));
         },
     );
     line(name, 2.0, times);
 }
 
+/// Measures and prints everything.
 fn main() {
     println!("Processor time of one call in microseconds: medians of {BATCHES} batches of about 0.5 ms for each side, the two in turn.");
     println!("Lent lists are filled once before the first call and not cleared between calls.");
@@ -272,12 +281,12 @@ fn main() {
         ("planner_read", stack::read(&file)),
         ("planner_write", stack::write(&most_runs(64), &mut out)),
         ("planner_shift", stack::shift(&file, 5, &mut out)),
-        ("planner_plan", stack::plan(&file, &mut lists.marks, &mut lists.starts, &mut lists.ends, &mut lists.tasks)),
-        ("planner_judge", stack::judge(&file, &lists.marks, &lists.starts, &lists.ends, &lists.tasks)),
+        ("planner_plan", stack::plan(&file, LAUNCH, &mut lists.marks, &mut lists.starts, &mut lists.ends, &mut lists.tasks)),
+        ("planner_judge", stack::judge(&file, LAUNCH, &lists.marks, &lists.starts, &lists.ends, &lists.tasks)),
         ("planner_busy", stack::busy(&lists.starts, &lists.ends, &lists.tasks, 0, 9000)),
         (
             "planner_plan of similar tasks",
-            stack::plan(&inputs::pack(&similar_tight(64)), &mut lists.marks, &mut lists.starts, &mut lists.ends, &mut lists.tasks),
+            stack::plan(&inputs::pack(&similar_tight(64)), LAUNCH, &mut lists.marks, &mut lists.starts, &mut lists.ends, &mut lists.tasks),
         ),
     ];
     for (name, measured) in uses {

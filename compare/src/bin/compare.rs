@@ -4,9 +4,9 @@
 
 use planner_compare::brute;
 use planner_compare::ffi::{self, BusyCount, Judged, Planned, TableRead, Written};
-use planner_compare::inputs::{self, lent_length, Load, Shape};
+use planner_compare::inputs::{self, lent_length, Judgement, Load, Shape};
 use planner_compare::random::Random;
-use planner_compare::reference::{self, deadline_tick, release_tick, Kind, Table, LAST_FRAME};
+use planner_compare::reference::{self, Kind, Table, LAST_FRAME, MAX_LAUNCH};
 use std::fmt::Debug;
 use std::process::ExitCode;
 use std::time::Instant;
@@ -26,19 +26,23 @@ impl<T: Copy> Lent<T> {
         Lent { all: (0..length + 2 * MARGIN).map(|_| fill()).collect(), length }
     }
 
+    /// The list without its margins.
     fn list(&self) -> &[T] {
         &self.all[MARGIN..MARGIN + self.length]
     }
 
+    /// The list without its margins, to lend it.
     fn list_mut(&mut self) -> &mut [T] {
         &mut self.all[MARGIN..MARGIN + self.length]
     }
 }
 
+/// A list of bytes of any content.
 fn bytes(random: &mut Random, length: usize) -> Lent<u8> {
     Lent::filled(length, || random.word() as u8)
 }
 
+/// A list of numbers of any content.
 fn words(random: &mut Random, length: usize) -> Lent<u32> {
     Lent::filled(length, || random.word() as u32)
 }
@@ -46,6 +50,7 @@ fn words(random: &mut Random, length: usize) -> Lent<u32> {
 /// What a case came to: the number replied, or what differs.
 type Outcome = Result<u32, String>;
 
+/// An error that shows both and the input, where two replies differ.
 fn same<T: PartialEq + Debug>(what: &str, proved: &T, expected: &T, input: impl FnOnce() -> String) -> Result<(), String> {
     if proved == expected {
         return Ok(());
@@ -53,6 +58,7 @@ fn same<T: PartialEq + Debug>(what: &str, proved: &T, expected: &T, input: impl 
     Err(format!("{what}\n  proved library: {proved:?}\n  reference:      {expected:?}\n  {}", input()))
 }
 
+/// An error that shows both and the input, where two lists or their margins differ.
 fn same_list<T: PartialEq + Debug + Copy>(what: &str, proved: &Lent<T>, expected: &Lent<T>, input: impl FnOnce() -> String) -> Result<(), String> {
     if proved == expected {
         return Ok(());
@@ -61,11 +67,13 @@ fn same_list<T: PartialEq + Debug + Copy>(what: &str, proved: &Lent<T>, expected
     Err(format!("{what} of length {} (or its margin)\n  proved library: {a:?}\n  reference:      {b:?}\n  {}", proved.length, input()))
 }
 
+/// A file in hex digits, with its length.
 fn hex(file: &[u8]) -> String {
     let digits: String = file.iter().map(|byte| format!("{byte:02x}")).collect();
     format!("file of {} bytes: {digits}", file.len())
 }
 
+/// Reading.
 fn compare_read(random: &mut Random) -> Outcome {
     let file = inputs::file(random);
     let proved = ffi::read(&file);
@@ -74,6 +82,7 @@ fn compare_read(random: &mut Random) -> Outcome {
     Ok(proved.number)
 }
 
+/// Writing, and reading what was written.
 fn compare_write(random: &mut Random) -> Outcome {
     let table = match random.up_to(7) {
         0..=3 => inputs::table(random),
@@ -98,6 +107,7 @@ fn compare_write(random: &mut Random) -> Outcome {
     Ok(proved.number)
 }
 
+/// Moving.
 fn compare_shift(random: &mut Random) -> Outcome {
     let file = inputs::file(random);
     // Near the ends of the range that this table can move in, and far beyond them.
@@ -125,8 +135,10 @@ fn compare_shift(random: &mut Random) -> Outcome {
     Ok(proved.number)
 }
 
+/// Planning at a launch tick, judging what it gives, and planning at launch 0.
 fn compare_plan(random: &mut Random) -> Outcome {
     let file = if random.up_to(3) > 0 { inputs::pack(&inputs::table(random)) } else { inputs::file(random) };
+    let launch = inputs::launch(random);
     let n = (file.first().map_or(1, |byte| byte >> 1) as usize).clamp(1, 64);
     let exact = random.up_to(3) > 0;
     let mut length = |needed: usize| if exact { needed } else { lent_length(random, needed) };
@@ -137,33 +149,51 @@ fn compare_plan(random: &mut Random) -> Outcome {
     let mut tasks = words(random, lengths[3]);
     let (mut expected_marks, mut expected_starts, mut expected_ends, mut expected_tasks) =
         (marks.clone(), starts.clone(), ends.clone(), tasks.clone());
-    let proved = ffi::plan(&file, marks.list_mut(), starts.list_mut(), ends.list_mut(), tasks.list_mut());
+    let mut at_0 = (marks.clone(), starts.clone(), ends.clone(), tasks.clone());
+    let proved = ffi::plan(&file, launch, marks.list_mut(), starts.list_mut(), ends.list_mut(), tasks.list_mut());
     let expected = Planned::from(reference::plan(
         &file,
+        launch,
         expected_marks.list_mut(),
         expected_starts.list_mut(),
         expected_ends.list_mut(),
         expected_tasks.list_mut(),
     ));
-    let input = || hex(&file);
+    let input = || format!("launch {launch}, {}", hex(&file));
     same("reply", &proved, &expected, input)?;
     same_list("marks", &marks, &expected_marks, input)?;
     same_list("starts", &starts, &expected_starts, input)?;
     same_list("ends", &ends, &expected_ends, input)?;
     same_list("tasks", &tasks, &expected_tasks, input)?;
     if proved.number == 0 {
-        let said = ffi::judge(&file, &marks.list()[..n], &starts.list()[..proved.runs], &ends.list()[..proved.runs], &tasks.list()[..proved.runs]);
+        let runs = proved.runs;
+        let said = ffi::judge(&file, launch, &marks.list()[..n], &starts.list()[..runs], &ends.list()[..runs], &tasks.list()[..runs]);
         let owed = Judged { number: 0, place: 0, yes: true, kept: proved.kept, discarded: proved.discarded };
         same("judge of the plan", &said, &owed, input)?;
+    }
+    if (1..=MAX_LAUNCH).contains(&launch) {
+        // With launch 0 the reply, the marks and the tasks are the same, and each run lies earlier by the launch tick.
+        let (marks_0, starts_0, ends_0, tasks_0) = &mut at_0;
+        let proved_0 = ffi::plan(&file, 0, marks_0.list_mut(), starts_0.list_mut(), ends_0.list_mut(), tasks_0.list_mut());
+        for column in [starts_0, ends_0] {
+            column.list_mut()[..proved_0.runs].iter_mut().for_each(|tick| *tick += launch);
+        }
+        same("reply at the launch tick and at 0", &proved, &proved_0, input)?;
+        let (marks_0, starts_0, ends_0, tasks_0) = &at_0;
+        same_list("marks at the launch tick and at 0", &marks, marks_0, input)?;
+        same_list("starts at the launch tick and at 0, moved", &starts, starts_0, input)?;
+        same_list("ends at the launch tick and at 0, moved", &ends, ends_0, input)?;
+        same_list("tasks at the launch tick and at 0", &tasks, tasks_0, input)?;
     }
     Ok(plan_outcome(&file, proved))
 }
 
+/// Judging at the launch tick that the runs were made at, or at another one.
 fn compare_judge(random: &mut Random) -> Outcome {
-    let (file, marks, columns) = inputs::judgement(random);
-    let proved = ffi::judge(&file, &marks, &columns.starts, &columns.ends, &columns.tasks);
-    let expected = Judged::from(reference::judge(&file, &marks, &columns.starts, &columns.ends, &columns.tasks));
-    same("reply", &proved, &expected, || format!("marks {marks:?}, {columns:?}, {}", hex(&file)))?;
+    let Judgement { file, launch, marks, columns } = inputs::judgement(random);
+    let proved = ffi::judge(&file, launch, &marks, &columns.starts, &columns.ends, &columns.tasks);
+    let expected = Judged::from(reference::judge(&file, launch, &marks, &columns.starts, &columns.ends, &columns.tasks));
+    same("reply", &proved, &expected, || format!("launch {launch}, marks {marks:?}, {columns:?}, {}", hex(&file)))?;
     Ok(if proved.yes { YES } else { proved.number })
 }
 
@@ -174,21 +204,23 @@ fn compare_judge_long(random: &mut Random) -> Outcome {
     let mut table = Table { count: 1, p: 1, q: 1, ..Table::ZERO };
     table.tasks[0] = task;
     let file = inputs::pack(&table);
+    let launch = inputs::launch(random);
     let mut columns = inputs::Columns::default();
     for i in 0..length {
-        let start = 2 * i + random.up_to(1);
+        let start = launch.min(MAX_LAUNCH) + 2 * i + random.up_to(1);
         columns.push((start, start + 1, 0));
     }
     if random.once_in(3) {
         let at = random.index(length as usize);
         columns.ends[at] += random.up_to(2);
     }
-    let proved = ffi::judge(&file, &[1], &columns.starts, &columns.ends, &columns.tasks);
-    let expected = Judged::from(reference::judge(&file, &[1], &columns.starts, &columns.ends, &columns.tasks));
-    same("reply", &proved, &expected, || format!("{length} runs"))?;
+    let proved = ffi::judge(&file, launch, &[1], &columns.starts, &columns.ends, &columns.tasks);
+    let expected = Judged::from(reference::judge(&file, launch, &[1], &columns.starts, &columns.ends, &columns.tasks));
+    same("reply", &proved, &expected, || format!("launch {launch}, {length} runs"))?;
     Ok(if proved.yes { YES } else { proved.number })
 }
 
+/// The busy count.
 fn compare_busy(random: &mut Random) -> Outcome {
     let columns = inputs::busy_columns(random);
     let end = columns.ends.last().copied().unwrap_or(0);
@@ -226,8 +258,9 @@ fn small_table(random: &mut Random) -> Table {
                 task.optional %= 6;
             }
         }
-        let ticks = |task: &reference::Task| deadline_tick(task.deadline, p, q) - release_tick(task.release, p, q);
-        let last = table.tasks().iter().map(|task| deadline_tick(task.deadline, p, q)).max().unwrap_or(0);
+        let clock = table.clock(0);
+        let ticks = |task: &reference::Task| clock.deadline(task.deadline) - clock.release(task.release);
+        let last = table.tasks().iter().map(|task| clock.deadline(task.deadline)).max().unwrap_or(0);
         if table.tasks().iter().all(|task| ticks(task) <= 60) && last <= 200 {
             return table;
         }
@@ -237,10 +270,11 @@ fn small_table(random: &mut Random) -> Table {
 /// The planner, the reference and brute force over all keep lists.
 fn compare_brute(random: &mut Random) -> Outcome {
     let table = small_table(random);
+    let launch = inputs::launch(random);
     let file = inputs::pack(&table);
     let n = table.count as usize;
-    let input = || hex(&file);
-    let best = brute::best(&table).map_err(|what| format!("brute force: the rules differ about {what}\n  {}", input()))?;
+    let input = || format!("launch {launch}, {}", hex(&file));
+    let best = brute::best(&table, launch).map_err(|what| format!("brute force: the rules differ about {what}\n  {}", input()))?;
     let (marks, runs, expected) = match best {
         Ok(best) => {
             let said = Planned { number: 0, place: 0, kept: best.kept, discarded: best.discarded, runs: best.runs.len() };
@@ -249,7 +283,7 @@ fn compare_brute(random: &mut Random) -> Outcome {
         Err((number, place)) => (vec![9; n], vec![], Planned { number, place, kept: 0, discarded: 0, runs: 0 }),
     };
     for (name, plan) in PLANNERS {
-        let (said, got_marks, got_runs) = plan_with(plan, &file, n);
+        let (said, got_marks, got_runs) = plan_with(plan, &file, launch, n);
         if (said, &got_marks, &got_runs) != (expected, &marks, &runs) {
             return Err(format!(
                 "{name} and brute force\n  {name}: {said:?} {got_marks:?} {got_runs:?}\n  brute force: {expected:?} {marks:?} {runs:?}\n  {}",
@@ -261,20 +295,30 @@ fn compare_brute(random: &mut Random) -> Outcome {
 }
 
 /// A planner that replies as the C interface does.
-type Plan<'a> = &'a dyn Fn(&[u8], &mut [u8], &mut [u32], &mut [u32], &mut [u32]) -> Planned;
+type Plan<'a> = &'a dyn Fn(&[u8], u32, &mut [u8], &mut [u32], &mut [u32], &mut [u32]) -> Planned;
 
-const PLANNERS: [(&str, Plan); 2] = [("proved library", &ffi::plan), ("reference", &|f, m, s, e, t| Planned::from(reference::plan(f, m, s, e, t)))];
+const PLANNERS: [(&str, Plan); 2] =
+    [("proved library", &ffi::plan), ("reference", &|f, l, m, s, e, t| Planned::from(reference::plan(f, l, m, s, e, t)))];
+
+/// A judge that replies as the C interface does.
+type Judge<'a> = &'a dyn Fn(&[u8], u32, &[u8], &[u32], &[u32], &[u32]) -> Judged;
+
+const JUDGES: [(&str, Judge); 2] =
+    [("proved library", &ffi::judge), ("reference", &|f, l, m, s, e, t| Judged::from(reference::judge(f, l, m, s, e, t)))];
 
 /// The reply, the marks and the runs of a planner whose lists are just long enough; on a refusal the marks stay 9.
-fn plan_with(plan: Plan, file: &[u8], n: usize) -> (Planned, Vec<u8>, Vec<(u32, u32, u32)>) {
+fn plan_with(plan: Plan, file: &[u8], launch: u32, n: usize) -> (Planned, Vec<u8>, Vec<(u32, u32, u32)>) {
     let mut marks = vec![9; n];
     let (mut starts, mut ends, mut tasks) = (vec![9; 2 * n - 1], vec![9; 2 * n - 1], vec![9; 2 * n - 1]);
-    let said = plan(file, &mut marks, &mut starts, &mut ends, &mut tasks);
+    let said = plan(file, launch, &mut marks, &mut starts, &mut ends, &mut tasks);
     let runs = (0..said.runs).map(|i| (starts[i], ends[i], tasks[i])).collect();
     (said, marks, runs)
 }
 
-/// The samples of the rules that a plan or a move shows, P4 to P12, and the limits on the count.
+/// Noon, in ticks of the day.
+const NOON: u32 = 43_200_000;
+
+/// The samples of the rules that a plan or a move shows, P4 to P12, the limits on the count, and launch ticks.
 fn samples() -> Result<usize, String> {
     type Fields<'a> = &'a [(u32, u32, u32, u32)];
     type Runs<'a> = &'a [(u32, u32, u32)];
@@ -314,12 +358,23 @@ fn samples() -> Result<usize, String> {
         ("place of 7", file(1, 1, &[(0, 5, 0, 0), (5, 9, 0, 0), (1, 4, 0, 0)]), refused(7, 2, 3)),
         ("place of 7, nested first", file(1, 1, &[(0, 5, 0, 0), (1, 4, 0, 0), (0, 5, 0, 0), (5, 9, 0, 0)]), refused(7, 3, 4)),
     ];
-    for (name, file, expected) in &plans {
-        for (planner, plan) in PLANNERS {
-            same(&format!("{name}, {planner} and the rules"), &plan_with(plan, file, expected.1.len()), expected, || hex(file))?;
+    let launches = [0, 1, NOON, MAX_LAUNCH, MAX_LAUNCH + 1, u32::MAX];
+    for (name, file, at_0) in &plans {
+        for launch in launches {
+            // The plans stand for launch 0; each run lies later by the launch tick. 14 comes behind what reading refuses, here 7, and before 8.
+            let expected = if launch > MAX_LAUNCH && at_0.0.number != 7 {
+                refused(14, 0, at_0.1.len())
+            } else {
+                (at_0.0, at_0.1.clone(), at_0.2.iter().map(|&(start, end, task)| (start + launch, end + launch, task)).collect())
+            };
+            for (planner, plan) in PLANNERS {
+                let what = format!("{name} at launch {launch}, {planner} and the rules");
+                same(&what, &plan_with(plan, file, launch, at_0.1.len()), &expected, || hex(file))?;
+            }
         }
     }
     let eight = file(1, 1, three);
+    let judgements = judged_samples(&eight)?;
     let moved = Written { number: 10, place: 0, bytes: 0 };
     same("P12", &ffi::shift(&eight, -1, &mut [0; 28]), &moved, || hex(&eight))?;
     same("P12, reference", &Written::from(reference::shift(&eight, -1, &mut [0; 28])), &moved, || hex(&eight))?;
@@ -328,7 +383,46 @@ fn samples() -> Result<usize, String> {
     let mut over = vec![0; 508];
     over[0] = 65 << 1;
     same("65 give 2", &(ffi::read(&over).number, ffi::read(&over).place), &(2, 0), || hex(&over))?;
-    Ok(2 * plans.len() + 4)
+    Ok(2 * plans.len() * launches.len() + judgements + 4)
+}
+
+/// P8 planned at noon and judged, and what comes behind 14 in planning and judging. P8's file is given.
+fn judged_samples(eight: &[u8]) -> Result<usize, String> {
+    let marks = [1, 0, 1];
+    let runs = [(2, 4, 0), (4, 6, 2), (6, 7, 0), (7, 8, 1), (8, 10, 0)];
+    let mut at_noon = inputs::Columns::default();
+    runs.iter().for_each(|&(start, end, task)| at_noon.push((NOON + start, NOON + end, task)));
+    let yes = Judged { number: 0, place: 0, yes: true, kept: 2, discarded: 1 };
+    let no = Judged { number: 0, place: 0, yes: false, kept: 0, discarded: 0 };
+    let refused = |number, place| Judged { number, place, ..no };
+    let (short, beyond) = (&eight[..27], MAX_LAUNCH + 1);
+    let cases = [
+        ("yes at noon", eight, NOON, &marks[..], 5, yes),
+        ("no a tick later", eight, NOON + 1, &marks[..], 5, no),
+        ("no a tick earlier", eight, NOON - 1, &marks[..], 5, no),
+        ("no at launch 0", eight, 0, &marks[..], 5, no),
+        ("14", eight, beyond, &marks[..], 5, refused(14, 0)),
+        ("1 before 14", short, beyond, &marks[..], 5, refused(1, 27)),
+        ("14 before 11", eight, beyond, &marks[..2], 5, refused(14, 0)),
+        ("14 before 13", eight, beyond, &marks[..], 4, refused(14, 0)),
+        ("11 at noon", eight, NOON, &marks[..2], 4, refused(11, 3)),
+        ("13 at noon", eight, NOON, &marks[..], 4, refused(13, 0)),
+    ];
+    for (name, file, launch, marks, ends, expected) in cases {
+        for (name_of_judge, judge) in JUDGES {
+            let said = judge(file, launch, marks, &at_noon.starts, &at_noon.ends[..ends], &at_noon.tasks);
+            same(&format!("judging, {name}, {name_of_judge} and the rules"), &said, &expected, || hex(file))?;
+        }
+    }
+    let refusals = [("1 before 14", short, beyond, 1, 27), ("14 before 9", eight, beyond, 14, 0), ("9 at noon", eight, NOON, 9, 0)];
+    for (name, file, launch, number, place) in refusals {
+        let expected = Planned { number, place, kept: 0, discarded: 0, runs: 0 };
+        for (planner, plan) in PLANNERS {
+            let said = plan(file, launch, &mut [9; 2], &mut [9; 5], &mut [9; 5], &mut [9; 5]);
+            same(&format!("planning with 2 marks, {name}, {planner} and the rules"), &said, &expected, || hex(file))?;
+        }
+    }
+    Ok(2 * cases.len() + 2 * refusals.len())
 }
 
 /// Outcomes counted apart beside the refusals: a judge's yes; a plan of nested windows that discards; plans of similar windows.
@@ -374,6 +468,7 @@ fn case(index: usize, seed: u64) -> Outcome {
     (CALLS[index].one)(&mut random).map_err(|what| format!("DIFFERENCE in {} of seed {seed}: {what}", CALLS[index].name))
 }
 
+/// The samples and all cases of every call; prints a line for each call.
 fn all() -> Result<(), String> {
     let begun = Instant::now();
     println!("{:<10} {:>7} cases, no difference", "samples", samples()?);
@@ -403,6 +498,7 @@ fn all() -> Result<(), String> {
     Ok(())
 }
 
+/// All cases, or the one that is named on the command line.
 fn main() -> ExitCode {
     let arguments: Vec<String> = std::env::args().skip(1).collect();
     let done = match arguments.as_slice() {
