@@ -1,7 +1,7 @@
 -- Laws of the members of lists.
 use Prim.Native.Nat.{ℕ, zero, suc, _+_, _≤_, _<_}
 use mathlib.Core.Path.{_≡_, refl}
-use mathlib.Core.Logic.{inl, inr, _↔_}
+use mathlib.Core.Logic.{_⊎_, inl, inr, _↔_}
 use mathlib.Core.List.{List, [], _∷_, _++_, reverse, reverse-cons}
 use native.Mathlib.Omega.{arith}
 use native.Mathlib.Decide.{decLe}
@@ -101,3 +101,29 @@ all-append P (x ∷ xs) ys f g = (f .0, all-append P xs ys (f .1) g)
 pub all-reverse : {A : Type 0} (P : A → Type 0) (xs : List A) → All P xs → All P (reverse xs)
 all-reverse P [] f = tt
 all-reverse P (x ∷ xs) f = rw (reverse-cons x xs) (all-append P (reverse xs) (x ∷ []) (all-reverse P xs (f .1)) (f .0, tt))
+
+-- Members of a list that has one more in the middle: all are P where that one is and all others are,
+pub all-around : {A : Type 0} (P : A → Type 0) (xs ys : List A) (x : A) → All P (xs ++ x ∷ ys) ↔ (P x × All P (xs ++ ys))
+all-around P [] ys x = (λ f. f, λ f. f)
+all-around P (y ∷ xs) ys x =
+    let rest = all-around P xs ys x in
+    (λ f. let g = rest .0 (f .1) in (g .0, (f .0, g .1)), λ f. (f .1 .0, rest .1 (f .0, f .1 .1)))
+
+-- and some member is where that one is or some other is.
+any-out : {A : Type 0} (P : A → Type 0) (xs ys : List A) (x : A) → Any P (xs ++ x ∷ ys) → P x ⊎ Any P (xs ++ ys)
+any-out P [] ys x f = f
+any-out P (y ∷ xs) ys x (inl h) = inr (inl h)
+any-out P (y ∷ xs) ys x (inr h) = past (any-out P xs ys x h)
+  where
+    past : P x ⊎ Any P (xs ++ ys) → P x ⊎ (P y ⊎ Any P (xs ++ ys))
+    past (inl k) = inl k
+    past (inr k) = inr (inr k)
+
+any-in : {A : Type 0} (P : A → Type 0) (xs ys : List A) (x : A) → P x ⊎ Any P (xs ++ ys) → Any P (xs ++ x ∷ ys)
+any-in P [] ys x f = f
+any-in P (y ∷ xs) ys x (inl h) = inr (any-in P xs ys x (inl h))
+any-in P (y ∷ xs) ys x (inr (inl h)) = inl h
+any-in P (y ∷ xs) ys x (inr (inr h)) = inr (any-in P xs ys x (inr h))
+
+pub any-around : {A : Type 0} (P : A → Type 0) (xs ys : List A) (x : A) → Any P (xs ++ x ∷ ys) ↔ (P x ⊎ Any P (xs ++ ys))
+any-around P xs ys x = (any-out P xs ys x, any-in P xs ys x)

@@ -1,6 +1,6 @@
 -- Laws of lists that are given place by place.
 use Prim.Native.Nat.{ℕ, zero, suc, _+_, _-_, _≤_, _<_}
-use mathlib.Core.Path.{_≡_, refl, ap}
+use mathlib.Core.Path.{_≡_, refl, ap, _∙_}
 use mathlib.Core.List.{List, [], _∷_, _++_, reverse, reverse-append}
 use native.Mathlib.Nat.{add-zero}
 use native.Mathlib.Omega.{arith}
@@ -58,6 +58,15 @@ pub take-places : {A : Type 0} (blank : A) (l : List A) (n : ℕ) → n ≤ leng
 take-places blank l n h =
     places-is (λ k. getD l k blank) n blank (take n l) (rw (length-take n l) (omega arith)) (λ k m. getD-take n l k blank m)
 
+-- so many places, and so many after them
+from-append : {A : Type 0} (at : ℕ → A) (i a b : ℕ) → placesFrom at i (a + b) ≡ placesFrom at i a ++ placesFrom at (i + a) b
+unfolding placesFrom
+from-append at i zero b = let e : zero + b ≡ b = omega arith in rw (e, add-zero i)
+from-append at i (suc a) b =
+    let more : suc a + b ≡ suc (a + b) = omega arith in
+    let next : i + suc a ≡ suc i + a = omega arith in
+    rw (more, next, from-append at (suc i) a b)
+
 -- A walk over the places from the first upwards: what is left at the beginning, at a place and at the end.
 pub left-start : {A : Type 0} (at : ℕ → A) (n : ℕ) → placesFrom at 0 (n - 0) ≡ places at n
 unfolding places
@@ -76,3 +85,11 @@ left-none at i c e = rw e
 
 pub left-end : {A : Type 0} (at : ℕ → A) (n i : ℕ) → n ≤ i → placesFrom at i (n - i) ≡ []
 left-end at n i l = left-none at i (n - i) (omega arith)
+
+-- The places are those before a place, it, and those after it.
+pub places-around : {A : Type 0} (at : ℕ → A) (n k : ℕ) → k < n → places at n ≡ places at k ++ at k ∷ placesFrom at (k + 1) (n - (k + 1))
+unfolding places
+places-around at n k l =
+    let parts : n ≡ k + (n - k) = omega arith in
+    let first : 0 + k ≡ k = omega arith in
+    ap (placesFrom at 0) parts ∙ (from-append at 0 k (n - k) ∙ rw first (ap (λ rest. placesFrom at 0 k ++ rest) (left-step at n k l)))

@@ -29,6 +29,6 @@ maxTicks = 16_383
 abbrev pub maxLaunch : ℕ
 maxLaunch = 86_399_999
 
--- the greatest tick that a frame can mean: the last frame at the longest period, after the greatest launch tick
+-- the greatest tick that a frame can mean: the end of the last frame at the longest period, after the greatest launch tick
 abbrev pub lastTick : ℕ
-lastTick = lastFrame * maxPeriod + maxLaunch
+lastTick = (lastFrame + 1) * maxPeriod + maxLaunch

@@ -8,12 +8,12 @@ use Rattle.base.specs.Limits.{lastFrame, maxPeriod, maxLaunch, lastTick}
 use Rattle.clock.specs.Clock.{LegalPeriod, releaseOffset, deadlineOffset, releaseTick, deadlineTick}
 use Rattle.clock.specs.ClockSamples.{clockSamples, sampleHolds, everySampleHolds}
 
--- The clock gives both ticks of every sample: P1 to P3 of document 01.
+-- The clock gives both ticks of every sample.
 pub clock-samples : everySampleHolds clockSamples ≡ true
 unfolding releaseOffset deadlineOffset releaseTick deadlineTick sampleHolds everySampleHolds
 clock-samples = refl
 
--- With launch tick 0 the clock is document 01's, and a launch tick makes every tick later by it.
+-- With launch tick 0 the ticks are those counted from the launch, and a launch tick makes every tick later by it.
 pub release-launch-0 : (p q f : ℕ) → releaseTick 0 p q f ≡ releaseOffset p q f
 unfolding releaseTick
 release-launch-0 p q f = omega arith
@@ -30,16 +30,16 @@ pub deadline-later : (launch p q f : ℕ) → deadlineTick launch p q f ≡ dead
 unfolding deadlineTick
 deadline-later launch p q f = omega arith
 
--- Counted from the launch, the release tick is not before f × p / q.
-pub release-not-before : (p q f : ℕ) → 1 ≤ q → f * p ≤ releaseOffset p q f * q
+-- Counted from the launch, the release tick is not before (f + 1) × p / q.
+pub release-not-before : (p q f : ℕ) → 1 ≤ q → (f + 1) * p ≤ releaseOffset p q f * q
 unfolding releaseOffset
-release-not-before p q f positive = omega (arith, lt-div-mul-add {a = f * p + (q - 1)} positive)
+release-not-before p q f positive = omega (arith, lt-div-mul-add {a = (f + 1) * p + (q - 1)} positive)
 
--- It is the least tick not before f × p / q.
-pub release-least : (p q f t : ℕ) → 1 ≤ q → f * p ≤ t * q → releaseOffset p q f ≤ t
+-- It is the least tick not before (f + 1) × p / q.
+pub release-least : (p q f t : ℕ) → 1 ≤ q → (f + 1) * p ≤ t * q → releaseOffset p q f ≤ t
 unfolding releaseOffset
 release-least p q f t positive reaches =
-    let below : f * p + (q - 1) < (t + 1) * q = omega (arith, add-mul t 1 q) in
+    let below : (f + 1) * p + (q - 1) < (t + 1) * q = omega (arith, add-mul t 1 q) in
     omega (arith, div-lt-iff-lt-mul positive .1 below)
 
 -- Counted from the launch, the deadline tick is not after f × p / q.
@@ -63,7 +63,9 @@ div-monotone (suc k) m n h =
 -- A later frame has no earlier release tick.
 pub release-monotone : (launch p q f g : ℕ) → f ≤ g → releaseTick launch p q f ≤ releaseTick launch p q g
 unfolding releaseTick releaseOffset
-release-monotone launch p q f g h = omega (arith, div-monotone q (f * p + (q - 1)) (g * p + (q - 1)) (omega (arith, mul-le-mul-right p h)))
+release-monotone launch p q f g h =
+    let ends : f + 1 ≤ g + 1 = omega arith in
+    omega (arith, div-monotone q ((f + 1) * p + (q - 1)) ((g + 1) * p + (q - 1)) (omega (arith, mul-le-mul-right p ends)))
 
 -- A later frame has no earlier deadline tick.
 pub deadline-monotone : (launch p q f g : ℕ) → f ≤ g → deadlineTick launch p q f ≤ deadlineTick launch p q g
@@ -77,19 +79,33 @@ div-add-multiple q m n positive multiple =
     let split : m + n ≡ m + n / q * q = omega arith in
     rw split (add-mul-div-right m (n / q) positive)
 
+-- The release tick of a window lies at most one tick after its deadline tick.
+pub release-one-after : (launch p q f g : ℕ) → 1 ≤ q → f < g → releaseTick launch p q f ≤ deadlineTick launch p q g + 1
+unfolding releaseTick deadlineTick deadlineOffset
+release-one-after launch p q f g positive h =
+    let end : f + 1 ≤ g = omega arith in
+    let later : (f + 1) * p ≤ g * p = mul-le-mul-right p end in
+    let least = release-least p q f (g * p / q + 1) positive (omega (arith, lt-div-mul-add {a = g * p} positive, add-mul (g * p / q) 1 q)) in
+    omega arith
+
+-- A window of one frame, from a release in a frame to a deadline in the next, is empty.
+pub one-frame-empty : (launch p q f : ℕ) → deadlineTick launch p q (f + 1) ≤ releaseTick launch p q f
+unfolding releaseTick deadlineTick releaseOffset deadlineOffset
+one-frame-empty launch p q f = omega (arith, div-monotone q ((f + 1) * p) ((f + 1) * p + (q - 1)) (omega arith))
+
 -- A shift by s frames, where s × p is a multiple of q, shifts the release tick by s × p / q.
 pub release-shift : (launch p q f s : ℕ) → 1 ≤ q → (s * p) % q ≡ 0 → releaseTick launch p q (f + s) ≡ releaseTick launch p q f + s * p / q
 unfolding releaseTick releaseOffset
 release-shift launch p q f s positive multiple =
-    let split : (f + s) * p + (q - 1) ≡ f * p + (q - 1) + s * p = omega (arith, add-mul f s p) in
-    rw split (omega (arith, div-add-multiple q (f * p + (q - 1)) (s * p) positive multiple))
+    let split : (f + s + 1) * p + (q - 1) ≡ (f + 1) * p + (q - 1) + s * p = omega (arith, add-mul (f + 1) s p) in
+    rw split (omega (arith, div-add-multiple q ((f + 1) * p + (q - 1)) (s * p) positive multiple))
 
 -- The same shift of the frame shifts the deadline tick by s × p / q.
 pub deadline-shift : (launch p q f s : ℕ) → 1 ≤ q → (s * p) % q ≡ 0 → deadlineTick launch p q (f + s) ≡ deadlineTick launch p q f + s * p / q
 unfolding deadlineTick deadlineOffset
 deadline-shift launch p q f s positive multiple = rw add-mul (omega (arith, div-add-multiple q (f * p) (s * p) positive multiple))
 
--- the greatest number that the clock divides: the tick at which the last frame ends, times q, and a number up to 4,095
+-- the greatest number that the clock divides: the end of the last frame at the longest period, times q, and a number up to 4,095
 abbrev greatest : ℕ
 greatest = (lastFrame + 1) * maxPeriod + maxPeriod
 
@@ -107,22 +123,24 @@ number-fits few = omega arith
 pub tick-fits : {x launch : ℕ} (q : ℕ) → x ≤ greatest → launch ≤ maxLaunch → x / q + launch < 2 ^ 32
 tick-fits {x} q few low = omega (arith, div-le-self x q)
 
--- Both ticks of a frame fit 32 bits at every accepted launch tick.
-pub ticks-fit : (launch p q f : ℕ) → launch ≤ maxLaunch → LegalPeriod p q → f ≤ lastFrame + 1
-    → (releaseTick launch p q f < 2 ^ 32) × (deadlineTick launch p q f < 2 ^ 32)
-unfolding releaseTick deadlineTick releaseOffset deadlineOffset
-ticks-fit launch p q f low legal h =
-    (tick-fits q (sum-few h (legal .small) (omega arith)) low, tick-fits q (product-few h (legal .small)) low)
+-- The deadline tick of a frame that a table can name is at most where the last frame begins at the longest period, after the greatest launch tick.
+pub deadline-bounded : (launch p q f : ℕ) → launch ≤ maxLaunch → LegalPeriod p q → f ≤ lastFrame
+    → deadlineTick launch p q f ≤ lastFrame * maxPeriod + maxLaunch
+unfolding deadlineTick deadlineOffset
+deadline-bounded launch p q f low legal h =
+    let product : f * p ≤ lastFrame * maxPeriod = mul-le-mul h (legal .small) in
+    omega (arith, div-le-self (f * p) q)
 
--- Those of a frame that a table can name are at most the greatest tick, which fits 32 bits.
+-- Both ticks of such a frame are at most the greatest tick, which fits 32 bits.
 pub ticks-bounded : (launch p q f : ℕ) → launch ≤ maxLaunch → LegalPeriod p q → f ≤ lastFrame
     → (releaseTick launch p q f ≤ lastTick) × (deadlineTick launch p q f ≤ lastTick)
-unfolding releaseTick deadlineTick deadlineOffset
+unfolding releaseTick
 ticks-bounded launch p q f low legal h =
-    let product : f * p ≤ lastFrame * maxPeriod = mul-le-mul h (legal .small) in
-    let more : f * p * 1 ≤ f * p * q = mul-le-mul (le-refl (f * p)) (legal .positive) in
-    let least = release-least p q f (f * p) (legal .positive) (omega (arith, more)) in
-    (omega arith, omega (arith, div-le-self (f * p) q))
+    let end : f + 1 ≤ lastFrame + 1 = omega arith in
+    let product : (f + 1) * p ≤ (lastFrame + 1) * maxPeriod = mul-le-mul end (legal .small) in
+    let more : (f + 1) * p * 1 ≤ (f + 1) * p * q = mul-le-mul (le-refl ((f + 1) * p)) (legal .positive) in
+    let least = release-least p q f ((f + 1) * p) (legal .positive) (omega (arith, more)) in
+    (omega arith, omega (arith, deadline-bounded launch p q f low legal h))
 
 pub last-tick-fits : lastTick < 2 ^ 32
 last-tick-fits = omega arith

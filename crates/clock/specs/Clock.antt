@@ -14,11 +14,11 @@ pub record LegalPeriod (p q : ℕ) : Type 0 where
 abbrev pub badLaunch : ℕ → Bool
 badLaunch launch = ltb maxLaunch launch
 
--- Ticks counted from the launch: document 01's clock, whose frame 0 begins at tick 0.
+-- Ticks counted from the launch, as if frame 0 began at tick 0.
 
--- a release in frame f: the least tick not before f × p / q
+-- a release in frame f, whose data are complete only when the frame ends: the least tick not before (f + 1) × p / q
 unfoldable pub releaseOffset : ℕ → ℕ → ℕ → ℕ
-releaseOffset p q f = (f * p + (q - 1)) / q
+releaseOffset p q f = ((f + 1) * p + (q - 1)) / q
 
 -- a deadline in frame f: the greatest tick not after f × p / q
 unfoldable pub deadlineOffset : ℕ → ℕ → ℕ → ℕ

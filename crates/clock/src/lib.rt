@@ -1,8 +1,8 @@
 // The frame clock: from a launch tick, a period p/q and a frame to a tick. A tick is one millisecond, one frame lasts p/q ticks, and frame 0 begins at
-// the launch tick. Both functions multiply first and divide once, so no error is carried from frame to frame. They take one frame more than a table
-// can name: a frame ends where the next begins, so that frame's tick is where the last frame ends.
+// the launch tick. A release waits for the end of its frame, which is where the next frame begins. Both functions multiply first and divide once, so no
+// error is carried from frame to frame.
 ghost use mathlib.Core.Path.{_≡_};
-ghost use Prim.Native.Nat.{_+_, _≤_};
+ghost use Prim.Native.Nat.{_≤_};
 ghost use Rattle.base.specs.Limits.{lastFrame, maxLaunch};
 ghost use Rattle.clock.specs.Clock.{badLaunch, releaseTick, deadlineTick, LegalPeriod};
 use base::MAX_LAUNCH;
@@ -14,20 +14,20 @@ pub fn bad_launch(launch: u32) -> bool
     MAX_LAUNCH < launch
 }
 
-// The tick of a release in `frame`: the least tick not before frame * p / q, and the launch tick added.
+// The tick of a release in `frame`: the least tick not before (frame + 1) * p / q, and the launch tick added.
 pub fn release_tick(launch: u32, frame: u32, p: u32, q: u32) -> u32
     requires { ⌜ launch ≤ maxLaunch ⌝ }
-    requires { ⌜ frame ≤ lastFrame + 1 ⌝ }
+    requires { ⌜ frame ≤ lastFrame ⌝ }
     requires { ⌜ LegalPeriod p q ⌝ }
     ensures { λ r. ⌜ r ≡ releaseTick launch p q frame ⌝ }
 {
-    (frame * p + (q - 1)) / q + launch
+    ((frame + 1) * p + (q - 1)) / q + launch
 }
 
 // The tick of a deadline in `frame`: the greatest tick not after frame * p / q, and the launch tick added.
 pub fn deadline_tick(launch: u32, frame: u32, p: u32, q: u32) -> u32
     requires { ⌜ launch ≤ maxLaunch ⌝ }
-    requires { ⌜ frame ≤ lastFrame + 1 ⌝ }
+    requires { ⌜ frame ≤ lastFrame ⌝ }
     requires { ⌜ LegalPeriod p q ⌝ }
     ensures { λ r. ⌜ r ≡ deadlineTick launch p q frame ⌝ }
 {

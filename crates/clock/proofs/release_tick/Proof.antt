@@ -1,9 +1,12 @@
--- `release_tick` meets its contract: frame * p fits 32 bits, also with q - 1 added, and so does the tick.
+-- `release_tick` meets its contract: (frame + 1) * p fits 32 bits, also with q - 1 added, and so does the tick.
 use borrow.Author.Needs.{needs}
 use Rattle.clock.specs.Clock.{releaseOffset, releaseTick}
 use Rattle.clock.proofs.ClockLaws.{sum-few, product-few, number-fits, tick-fits}
 use Rattle.clock.proofs.release_tick.Statement.{statement}
 use Rattle.clock.proofs.release_tick.Tie as tie
+
+add-result : tie.Need-add-result
+add-result c = search needs
 
 mul-result : tie.Need-mul-result
 mul-result c = record { fits = number-fits (product-few (search needs) (search needs)) }
@@ -11,18 +14,18 @@ mul-result c = record { fits = number-fits (product-few (search needs) (search n
 sub-result : tie.Need-sub-result
 sub-result c = search needs
 
-add-result : tie.Need-add-result
-add-result c = record { fits = number-fits (sum-few (search needs) (search needs) (search needs)) }
+add-result-2 : tie.Need-add-result-2
+add-result-2 c = record { fits = number-fits (sum-few (search needs) (search needs) (search needs)) }
 
 div-result : tie.Need-div-result
 div-result c = search needs
 
-add-result-2 : tie.Need-add-result-2
-add-result-2 c = record { fits = tick-fits _ (sum-few (search needs) (search needs) (search needs)) (search needs) }
+add-result-3 : tie.Need-add-result-3
+add-result-3 c = record { fits = tick-fits _ (sum-few (search needs) (search needs) (search needs)) (search needs) }
 
 returns : tie.Need-returns
 unfolding releaseTick releaseOffset
 returns c = search needs
 
 pub release-tick-spec : {M : Type 1} → statement M
-release-tick-spec = tie.close (tie.spec mul-result sub-result add-result div-result add-result-2 returns)
+release-tick-spec = tie.close (tie.spec add-result mul-result sub-result add-result-2 div-result add-result-3 returns)
