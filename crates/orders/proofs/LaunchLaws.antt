@@ -23,7 +23,7 @@ pub jobs-launch : (launch : ℕ) (t : Table) → jobsLastFirst launch t ≡ late
 unfolding jobsLastFirst
 jobs-launch launch t = positions-launch launch t (orderLastFirst t)
 
--- which is where they were before there was a launch tick.
+-- which is where they are without a launch tick.
 pub jobs-launch-0 : (t : Table) → jobsLastFirst 0 t ≡ map (earlierJobAt t) (orderLastFirst t)
 unfolding jobsLastFirst
 jobs-launch-0 t = positions-launch-0 t (orderLastFirst t)

@@ -14,5 +14,6 @@ pub mod PlacingRules
 pub mod ReplyLaws
 pub mod ShiftLaws
 pub mod LaunchLaws
+pub mod EmptyWindows
 pub mod CallLaws
 pub mod ArrayLaws

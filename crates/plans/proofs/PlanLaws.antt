@@ -153,7 +153,7 @@ module _ (launch : ℕ) (t : Table) (legal : Legal t) (none : mandatoryFit launc
   unfolding planMarks marksBy keepList
   marks-length = places-length (markAt (jobsLastFirst launch t) (keepList launch t)) (t .count)
 
-  marks-low : (k : ℕ) → k < t .count → getD (planMarks launch t) k 0 ≤ 1
+  pub marks-low : (k : ℕ) → k < t .count → getD (planMarks launch t) k 0 ≤ 1
   unfolding planMarks marksBy keepList
   marks-low k l =
       rw (places-at (markAt (jobsLastFirst launch t) (keepList launch t)) (t .count) k 0 l)

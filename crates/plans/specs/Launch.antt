@@ -33,7 +33,7 @@ earlierReply file lists =
 unfoldable pub earlierLists : List ℕ → Planned → LentLists → LentLists
 earlierLists file reply lists = afterBy (isNested (tableIn file)) (tableIn file .count) (earlierJobs (tableIn file)) reply lists
 
--- a call with launch 0 replies and leaves in the lists what it did without a launch tick
+-- a call with launch 0 replies and leaves in the lists what one without a launch tick would
 pub record SameAsEarlier (file : List ℕ) (reply : Planned) (before after : LentLists) : Type 0 where
   pub reply-is : reply ≡ earlierReply file before
   pub lists-are : after ≡ earlierLists file reply before

@@ -1,4 +1,4 @@
--- What a launch tick does to what is printed: with launch 0 it is what was printed without a launch tick; at an accepted launch tick a refusal has the same
+-- What a launch tick does to what is printed: with launch 0 it is what is printed without a launch tick; at an accepted launch tick a refusal has the same
 -- line, and a plan the same lines, with the start and the end in each RUN line later by it.
 use Prim.Native.Nat.{ℕ}
 use mathlib.Core.Path.{_≡_, sym, _∙_}

@@ -1,4 +1,4 @@
--- The text printed without a launch tick, as it was before it was introduced. The theorems say that with launch 0 the same is printed.
+-- The text printed without a launch tick. The theorems say that with launch 0 the same is printed.
 use Prim.Native.Nat.{ℕ}
 use mathlib.Core.List.{List}
 use lib.Dec.{eqb}

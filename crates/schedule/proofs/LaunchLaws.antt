@@ -25,7 +25,7 @@ unfolding jobAt jobOf
 job-launch launch t k =
     rw (release-later launch (t .p) (t .q) (taskAt t k .release), deadline-later launch (t .p) (t .q) (taskAt t k .deadline))
 
--- which is where it was before there was a launch tick.
+-- which is where it is without a launch tick.
 pub job-launch-0 : (t : Table) (k : ℕ) → jobAt 0 t k ≡ earlierJobAt t k
 unfolding jobAt jobOf earlierJobAt
 job-launch-0 t k = rw (release-launch-0 (t .p) (t .q) (taskAt t k .release), deadline-launch-0 (t .p) (t .q) (taskAt t k .deadline))

@@ -1,6 +1,7 @@
 pub mod JobLaws
 pub mod TickLaws
 pub mod RunLaws
+pub mod EmptyWindows
 pub mod JudgeLaws
 pub mod BusyLaws
 pub mod PassLaws

@@ -1,5 +1,5 @@
--- Answers without a launch tick, as they were before it was introduced: the ticks of jobs are counted from the launch, and no 14 is sent. The theorems say
--- that with launch 0 every such answer holds.
+-- Answers without a launch tick: the ticks of jobs are counted from the launch, and no 14 is sent. The theorems say that with launch 0 every such answer
+-- holds.
 use Prim.Native.Nat.{ℕ}
 use mathlib.Core.List.{List}
 use Rattle.base.specs.Tests.{pick}

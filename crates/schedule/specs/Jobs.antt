@@ -1,4 +1,5 @@
--- Jobs: the tasks of an accepted table in ticks of the frame clock at a launch tick. Nothing above uses the clock, but Earlier, which has document 01's.
+-- Jobs: the tasks of an accepted table in ticks of the frame clock at a launch tick. Nothing above uses the clock, but Earlier, whose jobs have no launch
+-- tick.
 use Prim.Native.Nat.{ℕ, _+_, _-_, _≤_}
 use mathlib.Core.List.{List}
 use lib.Dec.{ltb, eqb}
@@ -35,7 +36,8 @@ jobAt launch t k = jobOf launch (t .p) (t .q) k (taskAt t k)
 unfoldable pub jobsOf : ℕ → Table → List Job
 jobsOf launch t = places (jobAt launch t) (t .count)
 
--- the ticks of a window, from its release, included, to its deadline, excluded; none where the deadline is not after the release
+-- the ticks of a window, from its release, included, to its deadline, excluded: 'A window that has no tick left is empty', also where its release tick
+-- lies after its deadline tick
 abbrev pub windowTicks : Job → ℕ
 windowTicks job = job .deadline - job .release
 

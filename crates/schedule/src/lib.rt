@@ -87,7 +87,7 @@ pub fn job_of(task: Task, launch: u32, p: u32, q: u32, position: u32) -> Job
     }
 }
 
-// The ticks of a job's window.
+// The ticks of a job's window: none where it is empty, which it is where its release tick is not below its deadline tick.
 pub fn window_ticks(job: Job) -> u32
     ensures { λ r. ⌜ r ≡ windowTicks job ⌝ }
 {
