@@ -1,4 +1,5 @@
--- The samples of the choice in document 01, in ticks.
+-- Samples of the choice, on jobs in ticks: the windows that document 01's own clock, which does not wait for the end of a frame, gives P4, P5, P7, P8 and
+-- P10.
 use Prim.Native.Nat.{ℕ}
 use mathlib.Core.Path.{_≡_}
 use mathlib.Core.List.{List, [], _∷_}

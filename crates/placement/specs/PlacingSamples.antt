@@ -1,4 +1,4 @@
--- The samples of the placing in document 01, in ticks: the chosen list is placed, and its runs are those of the document.
+-- Samples of the placing, on the jobs of the samples of the choice: the chosen list is placed, and its runs are those that document 01 gives.
 use Prim.Native.Nat.{ℕ}
 use mathlib.Core.Path.{_≡_}
 use mathlib.Core.List.{List, [], _∷_}

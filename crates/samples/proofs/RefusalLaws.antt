@@ -104,6 +104,6 @@ pub refusal-samples : All CallSays refusals
 unfolding tableOf
 refusal-samples =
     all-append CallSays computedRows largeRows computed-say (
-      planned-later 86_399_999 p8Table p8File 2 1 p8Marks p8Runs refl p8-at-0 .1,
+      planned-later 86_399_999 p8Table p8File 1 2 p8Marks p8Runs refl p8-at-0 .1,
       (written-reads 64 1 1 _ 500 500 (computed-say .0), (ticks-counted 4_096 (omega arith), tt)),
     )

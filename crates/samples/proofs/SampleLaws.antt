@@ -22,7 +22,6 @@ use Rattle.table.specs.Writing.{fileOf}
 use Rattle.table.specs.Moving.{moveReply}
 use Rattle.schedule.specs.declared.Run.{Run}
 use Rattle.schedule.specs.Jobs.{jobAt}
-use Rattle.schedule.specs.Runs.{runOf as run}
 use Rattle.plans.specs.Planning.{listsFor, planReply, planMarks, planRuns}
 use Rattle.lines.specs.Text.{decimalWithin, decimal, fields, line}
 use Rattle.printed_plan.specs.Printing.{dropsFrom, dropLines, runLine, runLines, planLines}
@@ -47,6 +46,7 @@ use Rattle.samples.specs.Samples.{
   p8NoonText,
   tieTable,
   tieFile,
+  tieRuns,
   computedSamples,
   launchSamples,
   FileHolds,
@@ -122,25 +122,24 @@ computed-say : All Says computedSamples
 computed-say = pass-all Says sampleMet computedSamples sample-says (all-pass .0)
 
 -- P8, and the table of the tie, with launch 0
-pub p8-at-0 : Says (planned p8Table p8File 2 1 p8Marks p8Runs)
-p8-at-0 = computed-say .1 .1 .1 .1 .1 .1 .1 .1 .0
+pub p8-at-0 : Says (planned p8Table p8File 1 2 p8Marks p8Runs)
+p8-at-0 = computed-say .1 .1 .1 .1 .1 .1 .1 .1 .1 .0
 
-tie-at-0 : Says (planned tieTable tieFile 1 1 (0 ∷ 1 ∷ []) (run 0 1 0 ∷ run 1 5 1 ∷ []))
-tie-at-0 = computed-say .1 .1 .1 .1 .1 .1 .1 .1 .1 .1 .1 .1 .1 .1 .1 .1 .1 .0
+tie-at-0 : Says (planned tieTable tieFile 1 1 (0 ∷ 1 ∷ []) tieRuns)
+tie-at-0 = computed-say .1 .1 .1 .1 .1 .1 .1 .1 .1 .1 .1 .1 .1 .1 .1 .1 .1 .1 .0
 
 -- P8's text at launch 43,200,000
 noon-text : printedInput (atNoon p8File) ≡ p8NoonText
 unfolding printedInput launchIn planLines runLines runLine dropLines dropsFrom line fields decimal decimalWithin textOf ascii tableOf
-noon-text = text-later 43_200_000 p8Table p8File 2 1 p8Marks p8Runs refl (all-pass .2) p8-at-0 ∙ lines
+noon-text = text-later 43_200_000 p8Table p8File 1 2 p8Marks p8Runs refl (all-pass .2) p8-at-0 ∙ lines
   where
-    lines : planLines 3 2 1 p8Marks p8NoonRuns ≡ p8NoonText
+    lines : planLines 3 1 2 p8Marks p8NoonRuns ≡ p8NoonText
     lines = refl
 
--- The sample flights: what document 01 says of P1 to P12, with P9 as request 1 of document 02 has it, and what the rows of requests 1 and 2 say, holds of
--- the definitions.
+-- The sample flights: what the rows of P1 to P12, under requests 1 to 3 of document 02, and the rows of these requests say holds of the definitions.
 pub flight-samples : All Says samples
 flight-samples =
     all-append Says computedSamples launchSamples computed-say (
-      planned-later 43_200_000 p8Table p8File 2 1 p8Marks p8Runs refl p8-at-0,
-      (noon-text, (planned-later 86_399_999 tieTable tieFile 1 1 (0 ∷ 1 ∷ []) (run 0 1 0 ∷ run 1 5 1 ∷ []) refl tie-at-0, tt)),
+      planned-later 43_200_000 p8Table p8File 1 2 p8Marks p8Runs refl p8-at-0,
+      (noon-text, (planned-later 86_399_999 tieTable tieFile 1 1 (0 ∷ 1 ∷ []) tieRuns refl tie-at-0, tt)),
     )

@@ -1,5 +1,6 @@
--- The refusals of document 01, with 7 and 8 as request 1 of document 02 has them and 14 of request 2, as one table of 127 calls and their whole replies:
--- every number with its place, the order among the numbers, calls at a limit that are not refused, and calls on similar tables, which are not refused either.
+-- The refusals of document 01, with 7 and 8 as request 1 of document 02 has them and 14 of request 2, as one table of 134 calls and their whole replies:
+-- every number with its place, the order among the numbers, calls at a limit that are not refused, calls on similar tables, which are not refused either, and
+-- what the judge says of runs at the ends of a window.
 use Prim.Native.Nat.{ℕ, _-_}
 use mathlib.Core.Path.{_≡_}
 use mathlib.Core.Bool.{true, false}
@@ -15,13 +16,14 @@ use Rattle.table.specs.Writing.{fileOf, writeReply}
 use Rattle.table.specs.Moving.{moveReply}
 use Rattle.schedule.specs.declared.Judged.{Judged}
 use Rattle.schedule.specs.declared.Busy.{Busy}
+use Rattle.schedule.specs.Runs.{startsOf, endsOf, tasksOf}
 use Rattle.schedule.specs.Judging.{judged, judgeDeclined, judgeSays}
 use Rattle.schedule.specs.BusyCount.{busyReply}
 use Rattle.plans.specs.declared.Planned.{Planned}
 use Rattle.plans.specs.Planning.{LentLists, lent, listsFor, planDeclined, planReply, planMade}
 use Rattle.printed_plan.specs.ProgramInput.{printedInput}
 use Rattle.samples.specs.Inputs.{task, table, textOf}
-use Rattle.samples.specs.Samples.{p4File, p8File, p8Marks, neitherTable, tieFile, lateFile, atZero}
+use Rattle.samples.specs.Samples.{p4File, p8File, p8Marks, p8Runs, neitherTable, tieFile, lateFile, emptyFile, atZero}
 
 -- a call, with what is given to it and its whole reply
 pub data Call : Type 0 where
@@ -78,7 +80,7 @@ lists marks starts ends tasks = lent (replicate marks 0) (replicate starts 0) (r
 abbrev pub longFile : List ℕ
 longFile = p4File ++ 0 ∷ []
 
--- three tasks, windows 0 to 5, 3 to 9 and 4 to 6: cut after task 2 the table is of neither kind; by document 01 alone the place would be 1
+-- three tasks, frames 0 to 5, 3 to 9 and 4 to 6: cut after task 2 the table is of neither kind; by document 01 alone the place would be 1
 abbrev pub neitherFile : List ℕ
 neitherFile = fileOf neitherTable
 
@@ -103,7 +105,7 @@ twoTasks = fileOf (table 1 1 (task 2 8 0 0 ∷ task 1 9 0 0 ∷ []))
 
 -- three tasks whose mandatory ticks exceed the outermost window alone: that of task 1, which is the last in nest order
 abbrev pub outermostExceeds : List ℕ
-outermostExceeds = fileOf (table 1 1 (task 2 8 2 0 ∷ task 0 10 7 0 ∷ task 4 6 2 0 ∷ []))
+outermostExceeds = fileOf (table 1 1 (task 2 9 2 0 ∷ task 0 11 7 0 ∷ task 4 7 2 0 ∷ []))
 
 -- three tasks of which two exceed their windows: task 1, the first in nest order, and task 0, the last
 abbrev pub innermostExceeds : List ℕ
@@ -111,7 +113,7 @@ innermostExceeds = fileOf (table 1 1 (task 0 10 9 0 ∷ task 4 6 3 0 ∷ task 2 
 
 -- three tasks in a similar table, task 2 the first in similar order, task 0 the last: its mandatory ticks, after those of the others, end late
 abbrev pub lastLate : List ℕ
-lastLate = fileOf (table 1 1 (task 2 5 2 0 ∷ task 1 4 2 0 ∷ task 0 3 2 0 ∷ []))
+lastLate = fileOf (table 1 1 (task 2 6 2 0 ∷ task 1 5 2 0 ∷ task 0 4 2 0 ∷ []))
 
 -- two tasks in a similar table, both longer than their windows: task 1 is the first in similar order
 abbrev pub bothLate : List ℕ
@@ -275,12 +277,22 @@ judgingRows =
     ∷ judges p8File 0 p8Marks (2 ∷ []) (4 ∷ []) [] (judgeDeclined 13 0)
     ∷ judges p8File 0 p8Marks (2 ∷ []) [] (0 ∷ []) (judgeDeclined 13 0)
     ∷ judges p8File 0 p8Marks (replicate 4_097 0) (replicate 4_097 0) (replicate 4_097 0) (judgeDeclined 13 0)
-    -- a similar table, windows 0 to 4 and 1 to 5: yes with its counts for the planner's plan, and for another that keeps the other part and runs late
-    ∷ judges tieFile 0 (0 ∷ 1 ∷ []) (0 ∷ 1 ∷ []) (1 ∷ 5 ∷ []) (0 ∷ 1 ∷ []) (judgeSays true 1 1)
-    ∷ judges tieFile 0 (1 ∷ 0 ∷ []) (2 ∷ 4 ∷ []) (4 ∷ 5 ∷ []) (0 ∷ 1 ∷ []) (judgeSays true 1 1)
+    -- a similar table, ticks 1 to 5 and 2 to 6: yes with its counts for the planner's plan, and for another that keeps the other part and runs late
+    ∷ judges tieFile 0 (0 ∷ 1 ∷ []) (1 ∷ 2 ∷ []) (2 ∷ 6 ∷ []) (0 ∷ 1 ∷ []) (judgeSays true 1 1)
+    ∷ judges tieFile 0 (1 ∷ 0 ∷ []) (3 ∷ 5 ∷ []) (5 ∷ 6 ∷ []) (0 ∷ 1 ∷ []) (judgeSays true 1 1)
     -- no for a run outside its window: task 1 before its release, task 0 after its deadline
-    ∷ judges tieFile 0 (1 ∷ 0 ∷ []) (0 ∷ 1 ∷ []) (1 ∷ 3 ∷ []) (1 ∷ 0 ∷ []) (judgeSays false 0 0)
-    ∷ judges tieFile 0 (1 ∷ 0 ∷ []) (1 ∷ 3 ∷ []) (2 ∷ 5 ∷ []) (1 ∷ 0 ∷ []) (judgeSays false 0 0)
+    ∷ judges tieFile 0 (1 ∷ 0 ∷ []) (1 ∷ 2 ∷ []) (2 ∷ 4 ∷ []) (1 ∷ 0 ∷ []) (judgeSays false 0 0)
+    ∷ judges tieFile 0 (1 ∷ 0 ∷ []) (2 ∷ 4 ∷ []) (3 ∷ 6 ∷ []) (1 ∷ 0 ∷ []) (judgeSays false 0 0)
+    -- frames 0 to 2 at period 100/1 are the ticks 100 to 200: yes for a run of all of them, no for one that begins a tick earlier, in frame 0
+    ∷ judges p4File 0 (0 ∷ []) (100 ∷ []) (200 ∷ []) (0 ∷ []) (judgeSays true 0 1)
+    ∷ judges p4File 0 (0 ∷ []) (99 ∷ []) (199 ∷ []) (0 ∷ []) (judgeSays false 0 0)
+    -- P8: yes for its plan, no for the one that document 01's clock would give
+    ∷ judges p8File 0 p8Marks (startsOf p8Runs) (endsOf p8Runs) (tasksOf p8Runs) (judgeSays true 1 2)
+    ∷ judges p8File 0 (1 ∷ 0 ∷ 1 ∷ []) (2 ∷ 4 ∷ 6 ∷ 7 ∷ 8 ∷ []) (4 ∷ 6 ∷ 7 ∷ 8 ∷ 10 ∷ []) (0 ∷ 2 ∷ 0 ∷ 1 ∷ 0 ∷ []) (judgeSays false 0 0)
+    -- an empty window, release tick 3 and deadline tick 2, and no mandatory tick: yes without a run, no for a run at either tick
+    ∷ judges emptyFile 0 (0 ∷ []) [] [] [] (judgeSays true 0 1)
+    ∷ judges emptyFile 0 (1 ∷ []) (2 ∷ []) (3 ∷ []) (0 ∷ []) (judgeSays false 0 0)
+    ∷ judges emptyFile 0 (1 ∷ []) (3 ∷ []) (4 ∷ []) (0 ∷ []) (judgeSays false 0 0)
     ∷ []
 
 -- The launch tick: 14, place 0, above 86,399,999, after every refusal of reading and before 8, 9, 11 and 13.
@@ -307,13 +319,13 @@ launchRows =
     -- judging: reading's refusal before 14
     ∷ judges neitherFile 86_400_000 [] [] [] [] (judgeDeclined 7 2)
     -- 14, before 11 and before 13
-    ∷ judges tieFile 86_400_000 (0 ∷ 1 ∷ []) (86_400_000 ∷ 86_400_001 ∷ []) (86_400_001 ∷ 86_400_005 ∷ []) (0 ∷ 1 ∷ []) (judgeDeclined 14 0)
+    ∷ judges tieFile 86_400_000 (0 ∷ 1 ∷ []) (86_400_001 ∷ 86_400_002 ∷ []) (86_400_002 ∷ 86_400_006 ∷ []) (0 ∷ 1 ∷ []) (judgeDeclined 14 0)
     ∷ judges p8File 86_400_000 (2 ∷ 1 ∷ []) [] [] [] (judgeDeclined 14 0)
     ∷ judges p8File 86_400_000 p8Marks (2 ∷ []) [] [] (judgeDeclined 14 0)
     -- at the limit: yes for the plan that lies later by it, which with launch 0 gets a no, and no for the plan of launch 0
-    ∷ judges tieFile 86_399_999 (0 ∷ 1 ∷ []) (86_399_999 ∷ 86_400_000 ∷ []) (86_400_000 ∷ 86_400_004 ∷ []) (0 ∷ 1 ∷ []) (judgeSays true 1 1)
-    ∷ judges tieFile 0 (0 ∷ 1 ∷ []) (86_399_999 ∷ 86_400_000 ∷ []) (86_400_000 ∷ 86_400_004 ∷ []) (0 ∷ 1 ∷ []) (judgeSays false 0 0)
-    ∷ judges tieFile 86_399_999 (0 ∷ 1 ∷ []) (0 ∷ 1 ∷ []) (1 ∷ 5 ∷ []) (0 ∷ 1 ∷ []) (judgeSays false 0 0)
+    ∷ judges tieFile 86_399_999 (0 ∷ 1 ∷ []) (86_400_000 ∷ 86_400_001 ∷ []) (86_400_001 ∷ 86_400_005 ∷ []) (0 ∷ 1 ∷ []) (judgeSays true 1 1)
+    ∷ judges tieFile 0 (0 ∷ 1 ∷ []) (86_400_000 ∷ 86_400_001 ∷ []) (86_400_001 ∷ 86_400_005 ∷ []) (0 ∷ 1 ∷ []) (judgeSays false 0 0)
+    ∷ judges tieFile 86_399_999 (0 ∷ 1 ∷ []) (1 ∷ 2 ∷ []) (2 ∷ 6 ∷ []) (0 ∷ 1 ∷ []) (judgeSays false 0 0)
     -- the program's input: fewer than 4 bytes get 1 with the input's length; from 4 bytes on 1 has the length of the file that follows them
     ∷ prints [] (textOf ("REFUSED 1 0" ∷ []))
     ∷ prints (0x05 ∷ 0x26 ∷ 0x5C ∷ []) (textOf ("REFUSED 1 3" ∷ []))
@@ -348,7 +360,7 @@ limitRows =
 abbrev pub largeRows : List Call
 largeRows =
     -- a plan at the greatest launch tick
-    plans p8File 86_399_999 (listsFor 3) (planMade 2 1 5)
+    plans p8File 86_399_999 (listsFor 3) (planMade 1 2 5)
     -- 64 tasks are read
     ∷ reads (fileOf (equalTasks 64)) 0 0 (equalTasks 64)
     -- 4,096 runs are counted, one tick each
