@@ -1,24 +1,29 @@
-// Plans the sample flights, P1 to P12 of document 01, P9 with the lengths chosen in `samples`, and prints the plans; and plans all tables of small sizes and
-// compares each plan with the rules tried on everything. The cases are the lines of the file `stdin`, of which a line that starts with `#` is a comment.
+// Plans the sample flights, P1 to P12 of document 01, P9 with the lengths chosen in `samples`, and variants of them, and prints the plans; and plans all tables
+// of small sizes and compares each plan with the rules tried on everything. The cases are the lines of the file `stdin`, of which a line that starts with `#`
+// is a comment.
 //
-// A sample, at a launch tick, has its number, and then P1 to P3 the release tick and the deadline tick; P4 to P11 the reply's number, place, kept,
-// discarded and runs; P12 the number, place and bytes. Below a plan stand the lists: at each place the mark, and the start, the end and the task of the run, 77 where
-// nothing was written.
+// A sample, at a launch tick, has its number, and a variant that of its sample: the table with every deadline a frame later, or one with a window without a
+// tick, as P11 has it, with other lengths or beside other windows. Then come of P1 to P3 the release tick and the deadline tick; of P4 to P11 and their
+// variants the reply's number, place, kept, discarded and runs; of P12 the number, place and bytes. Below a plan stand the lists: at each place the mark,
+// and the start, the end and the task of the run, 77 where nothing was written.
 //
 // A line on small tables has the number of tasks and the period; then the launch tick at which they are planned, how many tables there are, how many were
-// planned, how many of these are similar and not nested, how many were refused by 7 and refused by 8; the sums of kept, discarded and runs; how many have another reply or plan than expected, and the
-// index of the first of them.
+// planned, how many of these are similar and not nested, how many were refused by 7 and refused by 8; the sums of kept, discarded and runs; how many have
+// another reply or plan than expected, and the index of the first of them.
 //
 // The sizes. In all of them a task has 0 or 1 mandatory ticks.
-// - All tables whose windows lie within frames 0 to 3, which are three or four ticks: 1 task with the period 1/1, 2 and 3 tasks with 1/1, 3/2 and 5/4, each
-//   with 0 to 3 optional ticks; 4 tasks with 1/1 and 0 to 1 optional ticks.
-// - All tables of 4 tasks with 1/1 and 0 to 2 optional ticks whose windows are among three, one in the other or one after the other, within frames 0 to 6,
+// - All tables whose windows lie within frames 0 to 4, which are three or four ticks from the end of frame 0 on: 1 task with the period 1/1, and 2 tasks with
+//   1/1, 3/2 and 5/4, each with 0 to 3 optional ticks; 3 tasks with 3/2 and 5/4 and 0 to 1 optional ticks. Windows of one frame are among them, which are
+//   empty: their release tick is their deadline tick, or one after it.
+// - All tables of such windows of more than one frame, of which two are empty at 5/4: 3 tasks with 1/1, 3/2 and 5/4 and 0 to 3 optional ticks; 4 tasks with 1/1
+//   and 0 to 1 optional ticks.
+// - All tables of 4 tasks with 1/1 and 0 to 2 optional ticks whose windows are among three, one in the other or one after the other, within frames 0 to 7,
 //   which are six ticks.
 //
 // How they are tried.
-// - Both sizes on all keep lists. The kind and the place of 7 are found from all pairs of windows; the choice, the placing and the place of 8 by trying every
+// - All sizes on all keep lists. The kind and the place of 7 are found from all pairs of windows; the choice, the placing and the place of 8 by trying every
 //   keep list.
-// - The tables within frames 0 to 3 on all runnings too. Whether 8 is due, its place, and the fewest parts discarded are found once more, from the definition
+// - The tables within frames 0 to 4 on all runnings too. Whether 8 is due, its place, and the fewest parts discarded are found once more, from the definition
 //   of a running, by trying every way to give each tick to a task or to none. Of six ticks and 4 tasks there would be 15,625 ways a table.
 mod checks;
 mod judges;

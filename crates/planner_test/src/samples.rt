@@ -1,4 +1,4 @@
-// The sample flights: P1 to P12 of document 01, P9 with the lengths chosen in `samples`.
+// The sample flights: P1 to P12 of document 01, P9 with the lengths chosen in `samples`, and variants, which have the number of their sample.
 use crate::judges;
 use plans::Planned;
 

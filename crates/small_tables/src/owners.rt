@@ -2,7 +2,7 @@
 
 use std::num::wrapping_add_u32;
 
-// The ticks of a small table, and one more that no window has.
+// The ticks 0 to 7. No window of a small table has the first or the last.
 pub const TICKS: usize = 8;
 
 // The most runs of four tasks.

@@ -1,4 +1,4 @@
-// The runnings of small tables within frames 0 to 3, all of them, from document 01's definition: 'A running of a table gives each tick to one task or to
+// The runnings of small tables within frames 0 to 4, all of them, from document 01's definition: 'A running of a table gives each tick to one task or to
 // none; a task gets ticks of its window only, as many as its mandatory ticks or as its mandatory and optional ticks together.' Nothing of kinds, orders
 // and placing is known here.
 //
@@ -17,7 +17,12 @@ const GAINS: usize = 16;
 // More than any number of discarded parts: a way to give away the ticks that is no running, or a table that has none.
 pub const NO_RUNNING: u32 = 16;
 
-// How many ways there are to give away the ticks of frames 0 to 3: four ticks with the period 3/2, and three with 1/1 and 5/4.
+// The n-th tick from the first that a window can have, the release tick of frame 0, is in a task's window.
+fn holds_nth(task: Task, row: usize, n: u32) -> bool {
+    small::has_tick(task, row, wrapping_add_u32(small::release_tick(row, 0), n))
+}
+
+// How many ways there are to give away the ticks from the first to the deadline of frame 4: four ticks with the period 3/2, and three with 1/1 and 5/4.
 fn ways(row: usize) -> u32 {
     if row == 1 {
         return 625;
@@ -30,7 +35,7 @@ fn gains(tasks: [Task; PLACES], row: usize) -> [u32; GAINS] {
     let mut gains = [OUTSIDE; GAINS];
     let mut i: usize = 0;
     while i < GAINS {
-        if small::has_tick(tasks[i % 4], row, (i / 4) as u32) {
+        if holds_nth(tasks[i % 4], row, (i / 4) as u32) {
             gains[i] = 1;
         }
         i += 1;

@@ -13,17 +13,17 @@ abbrev μ-loop : tie.MeasureT-loop
 loop-holds : tie.Need-loop-holds Inv-loop μ-loop
 loop-holds c = search needs
 
-mul-has-tick : tie.Need-mul-has-tick Inv-loop μ-loop
-mul-has-tick c = search needs
+mul-holds-nth : tie.Need-mul-holds-nth Inv-loop μ-loop
+mul-holds-nth c = search needs
 
-array-copy-out-has-tick : tie.Need-array-copy-out-has-tick Inv-loop μ-loop
-array-copy-out-has-tick c = search needs
+array-copy-out-holds-nth : tie.Need-array-copy-out-holds-nth Inv-loop μ-loop
+array-copy-out-holds-nth c = search needs
 
-cast-has-tick : tie.Need-cast-has-tick Inv-loop μ-loop
-cast-has-tick c = search needs
+cast-holds-nth : tie.Need-cast-holds-nth Inv-loop μ-loop
+cast-holds-nth c = search needs
 
-has-tick-requires : tie.Need-has-tick-requires Inv-loop μ-loop
-has-tick-requires c κs = search needs
+holds-nth-requires : tie.Need-holds-nth-requires Inv-loop μ-loop
+holds-nth-requires c κs = search needs
 
 mul-gains : tie.Need-mul-gains Inv-loop μ-loop
 mul-gains c = search needs
@@ -50,10 +50,10 @@ gains-spec =
     Inv-loop
     μ-loop
     loop-holds
-    mul-has-tick
-    array-copy-out-has-tick
-    cast-has-tick
-    has-tick-requires
+    mul-holds-nth
+    array-copy-out-holds-nth
+    cast-holds-nth
+    holds-nth-requires
     mul-gains
     array-write-gains
     add-i
