@@ -4,7 +4,7 @@
 
 #include "planner.h"
 
-/* Three tasks, p = q = 1: window 0 to 10, mandatory 2, optional 3; 2 to 8, 1 and 3; 4 to 6, 1 and 1. */
+/* Three tasks, p = q = 1, so that frames f to g are the ticks f + 1 to g: frames 0 to 10, mandatory 2, optional 3; 2 to 8, 1 and 3; 4 to 6, 1 and 1. */
 static const struct planner_table three = {
     .count = 3,
     .p = 1,
@@ -12,7 +12,7 @@ static const struct planner_table three = {
     .tasks = {{0, 10, 2, 3}, {2, 8, 1, 3}, {4, 6, 1, 1}},
 };
 
-/* Three tasks whose windows follow one another: 0 to 6, mandatory 2, optional 3; 3 to 9, 2 and 3; 7 to 12, 1 and 2. */
+/* Three tasks whose windows follow one another: frames 0 to 6, mandatory 2, optional 3; 3 to 9, 2 and 3; 7 to 12, 1 and 2. */
 static const struct planner_table turns = {
     .count = 3,
     .p = 1,
