@@ -177,9 +177,9 @@ fn stretches(jobs: &[Job], ticks: &Holders) -> Vec<(u32, u32, u32)> {
 
 /// The tasks in ticks at a launch tick, in the order of the table's kind: a stable sort keeps the lower position first among equals.
 fn in_order(table: &Table, launch: u32, nested: bool) -> Vec<Job> {
-    // The whole ticks of a frame; a release that does not fall on one waits for the next.
-    let whole = |frame: u32| launch + frame * table.p / table.q;
-    let waits = |frame: u32| u32::from(frame * table.p % table.q != 0);
+    // The whole ticks of so many frames. A release waits for the frame to end, and where that is not on a tick, for the next one.
+    let whole = |frames: u32| launch + frames * table.p / table.q;
+    let waits = |frames: u32| u32::from(frames * table.p % table.q != 0);
     let mut positions: Vec<usize> = (0..table.count as usize).collect();
     if nested {
         positions.sort_by_key(|&k| table.tasks[k].deadline - table.tasks[k].release);
@@ -189,13 +189,8 @@ fn in_order(table: &Table, launch: u32, nested: bool) -> Vec<Job> {
     }
     let job = |position: usize| {
         let task = table.tasks[position];
-        Job {
-            position,
-            release: whole(task.release) + waits(task.release),
-            deadline: whole(task.deadline),
-            mandatory: task.mandatory,
-            optional: task.optional,
-        }
+        let arrived = task.release + 1;
+        Job { position, release: whole(arrived) + waits(arrived), deadline: whole(task.deadline), mandatory: task.mandatory, optional: task.optional }
     };
     positions.into_iter().map(job).collect()
 }

@@ -35,7 +35,7 @@ pub fn period(random: &mut Random) -> (u32, u32) {
         0..=2 => (1, 1),
         3 => (1001, 10),
         4 => (MAX_PERIOD, random.pick(&[1, 2, MAX_PERIOD - 1, MAX_PERIOD])),
-        5 => (5, 4),
+        5 => random.pick(&[(5, 4), (5, 4), (3, 2), (7, 3)]),
         6 => (random.between(1, 40), 1),
         _ => {
             let p = random.between(1, MAX_PERIOD);
@@ -80,10 +80,10 @@ pub enum Shape {
 
 const SHAPES: [Shape; 5] = [Shape::Nested, Shape::Nested, Shape::Similar, Shape::Similar, Shape::Both];
 
-/// n windows, each inside the next, some equal.
+/// n windows, each inside the next, some equal. The innermost often has one frame and is empty.
 fn chain(random: &mut Random, n: usize) -> Vec<(u32, u32)> {
     let step = random.pick(&[0, 1, 1, 2, 3, 10, 100, 1000]);
-    let longest = random.pick(&[1, 2, 5, 50, 1000]);
+    let longest = random.pick(&[2, 3, 6, 50, 1000]);
     let inner = random.between(1, longest);
     let mut release = random.up_to(LAST_FRAME - inner);
     if random.once_in(2) {
@@ -104,30 +104,32 @@ fn chain(random: &mut Random, n: usize) -> Vec<(u32, u32)> {
     chain
 }
 
-/// n windows in similar order: some equal, some with one end in common, some that touch or lie apart, most of them overlapping.
+/// n windows in similar order: some equal, some with one end in common, some that touch or lie apart, most of them overlapping. Some lists have
+/// windows of one frame, which are empty.
 fn sequence(random: &mut Random, n: usize) -> Vec<(u32, u32)> {
     let step = random.pick(&[1, 1, 2, 3, 10, 100, 1000]);
-    let longest = random.pick(&[1, 2, 3, 5, 50, 1000]);
-    let mut release = if random.once_in(4) { random.up_to(LAST_FRAME - 1) } else { random.up_to(5) };
-    let mut deadline = (release + random.between(1, longest)).min(LAST_FRAME);
+    let shortest = random.pick(&[1, 2, 2]);
+    let longest = random.pick(&[2, 3, 4, 6, 50, 1000]);
+    let mut release = if random.once_in(4) { random.up_to(LAST_FRAME - shortest) } else { random.up_to(5) };
+    let mut deadline = (release + random.between(shortest, longest)).min(LAST_FRAME);
     let mut sequence = Vec::with_capacity(n);
     for _ in 0..n {
         sequence.push((release, deadline));
         match random.up_to(11) {
             0 => {}
             1 => deadline += random.up_to(step),
-            2 => release = (release + random.up_to(step)).min(deadline - 1),
+            2 => release = (release + random.up_to(step)).min(deadline - shortest),
             3 => {
                 release = deadline + random.up_to(1) * random.up_to(step);
-                deadline = release + random.between(1, longest);
+                deadline = release + random.between(shortest, longest);
             }
             _ => {
                 release += random.up_to(step);
                 deadline += random.up_to(step);
             }
         }
-        release = release.min(LAST_FRAME - 1);
-        deadline = deadline.clamp(release + 1, LAST_FRAME);
+        release = release.min(LAST_FRAME - shortest);
+        deadline = deadline.clamp(release + shortest, LAST_FRAME);
     }
     sequence
 }
@@ -160,7 +162,7 @@ fn lengths(random: &mut Random, free: u32, few: u32, load: Load) -> (u32, u32) {
         Load::Tight => {
             let part = random.pick(&[1, 2, 4]);
             let mandatory = random.up_to(free / part);
-            (mandatory, random.up_to((free - mandatory / 2).saturating_mul(3)))
+            (mandatory, random.up_to((free - mandatory / 2).saturating_mul(3).max(few)))
         }
         Load::Few => (random.up_to(few).min(free), random.up_to(few)),
         Load::Large => {
@@ -207,7 +209,7 @@ pub fn shaped_table(random: &mut Random, n: usize, (p, q): (u32, u32), shape: Sh
             task.mandatory = 0;
         }
         if random.once_in(200) {
-            task.mandatory = (task.mandatory + random.up_to(ticks)).min(MAX_TICKS);
+            task.mandatory = (task.mandatory + random.between(1, ticks.max(1))).min(MAX_TICKS);
         }
         used += match load {
             Load::Loose => task.mandatory + task.optional,
@@ -496,8 +498,8 @@ fn judged_launch(random: &mut Random, made: u32) -> u32 {
     }
 }
 
-/// A file, a launch tick, a keep list and run columns for the judge: plans, other runnings, and ones that were damaged, made at the launch tick or at
-/// another one.
+/// A file, a launch tick, a keep list and run columns for the judge: plans, other runnings, runs for tables that have no plan, and damaged ones, made
+/// at the launch tick or at another one.
 pub fn judgement(random: &mut Random) -> Judgement {
     let mut file = file(random);
     let made = accepted_launch(random);
@@ -513,6 +515,7 @@ pub fn judgement(random: &mut Random) -> Judgement {
     let planned = reference::plan(&file, made, &mut marks, &mut starts, &mut ends, &mut tasks);
     let mut runs: Vec<(u32, u32, u32)> = match planned {
         Ok(plan) => (0..plan.runs).map(|i| (starts[i], ends[i], tasks[i])).collect(),
+        Err(_) if random.once_in(2) => latest_runs(&table, made, &marks, &(0..n).collect::<Vec<usize>>()),
         Err(_) => (0..random.up_to(9)).map(|_| (random.any(), random.any(), random.up_to(n as u32))).collect(),
     };
     if planned.is_ok() && random.once_in(3) {
@@ -587,9 +590,10 @@ fn damage_runs(random: &mut Random, runs: &mut Vec<(u32, u32, u32)>, n: u32) {
         8 => runs[at].1 = runs[at].0,
         9 => runs[at] = (runs[at].1, runs[at].0, runs[at].2),
         10 => {
-            let by = random.between(1, 3);
-            runs[at].0 = runs[at].0.wrapping_add(by);
-            runs[at].1 = runs[at].1.wrapping_add(by);
+            // Later or earlier.
+            let by = random.pick(&[1, 2, 3, -1, -2, -3]);
+            runs[at].0 = runs[at].0.wrapping_add_signed(by);
+            runs[at].1 = runs[at].1.wrapping_add_signed(by);
         }
         _ => {
             let task = runs[at].2;

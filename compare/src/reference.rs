@@ -1,5 +1,5 @@
 //! The independent implementation: reading, writing, moving, planning, judging and the busy count, written from the rules of documents 01 and 02
-//! (requests 1 and 2) and not from the proved library. Only std, no unsafe code.
+//! (requests 1 to 3) and not from the proved library. Only std, no unsafe code.
 
 use std::cmp::Ordering;
 use std::collections::VecDeque;
@@ -92,14 +92,19 @@ pub struct Clock {
 }
 
 impl Clock {
-    /// The least tick not before `frame` × p / q, counted from the launch tick.
+    /// The least tick not before the end of `frame`, which is (`frame` + 1) × p / q, counted from the launch tick.
     pub fn release(&self, frame: u32) -> u32 {
-        self.launch + (frame * self.p).div_ceil(self.q)
+        self.launch + ((frame + 1) * self.p).div_ceil(self.q)
     }
 
     /// The greatest tick not after `frame` × p / q, counted from the launch tick.
     pub fn deadline(&self, frame: u32) -> u32 {
         self.launch + frame * self.p / self.q
+    }
+
+    /// The ticks of a task's window. The release of an empty window is its deadline tick or the tick after it.
+    pub fn ticks(&self, task: &Task) -> u32 {
+        self.deadline(task.deadline).saturating_sub(self.release(task.release))
     }
 }
 
@@ -346,6 +351,11 @@ impl Job {
         self.mandatory + if kept { self.optional } else { 0 }
     }
 
+    /// The ticks of the window, 0 where it is empty.
+    fn ticks(&self) -> u32 {
+        self.deadline.saturating_sub(self.release)
+    }
+
     /// When this much work of the job ends, as early as it can once the processor is free; NONE where that is after the deadline. No work ends at
     /// once, whatever the window.
     fn end(&self, free: u32, work: u32) -> u32 {
@@ -391,7 +401,7 @@ fn first_exceeding(jobs: &[Job]) -> Option<&Job> {
     let mut mandatory = 0;
     jobs.iter().find(|job| {
         mandatory += job.mandatory;
-        mandatory > job.deadline - job.release
+        mandatory > job.ticks()
     })
 }
 
@@ -417,7 +427,7 @@ fn choose_nested(jobs: &[Job]) -> [bool; MAX_TASKS] {
     let mut parts = 0;
     for (job, keeps) in jobs.iter().zip(&mut keeps) {
         mandatory += job.mandatory;
-        let room = job.deadline - job.release - mandatory;
+        let room = job.ticks() - mandatory;
         if job.optional > 0 {
             parts += 1;
             for k in (1..=parts).rev() {
@@ -530,14 +540,14 @@ impl Free {
 }
 
 /// The runs by start. Each job in nest order takes the latest ticks of its window that are still free. The jobs before it lie inside its window, so
-/// it is enough to know what is free in the window of the last one.
+/// it is enough to know what is free in the window of the last one. Jobs of no work are passed over; the windows of the others are not empty.
 fn place_nested(jobs: &[Job], kept: &[bool; MAX_TASKS]) -> Vec<Run> {
     let mut runs = Vec::with_capacity(2 * jobs.len());
-    let first = jobs[0].release;
+    let mut working = jobs.iter().zip(kept).map(|(job, &kept)| (job, job.work(kept))).filter(|&(_, work)| work > 0).peekable();
+    let first = working.peek().map_or(0, |(job, _)| job.release);
     let mut free = Free { window: (first, first), gaps: VecDeque::with_capacity(jobs.len() + 1) };
-    for (job, &kept) in jobs.iter().zip(kept) {
+    for (job, mut work) in working {
         free.widen(job.release, job.deadline);
-        let mut work = job.work(kept);
         while work > 0 {
             let Some((start, end)) = free.take_latest(work) else { break };
             runs.push(Run { start, end, task: job.position as u32 });

@@ -83,7 +83,8 @@ fn table(tasks: &[Task]) -> Table {
     table
 }
 
-/// A table of n tasks at shuffled positions: their windows in frames and their lengths. A frame lasts about 100 ticks.
+/// A table of n tasks at shuffled positions: their windows in frames and their lengths. A frame lasts about 100 ticks. A
+/// window has no tick of its first frame.
 fn shuffled(n: usize, window: impl Fn(u32) -> (u32, u32), lengths: impl Fn(u32) -> (u32, u32)) -> Table {
     let mut tasks: Vec<Task> = (0..n as u32)
         .map(|i| {
@@ -101,12 +102,12 @@ fn shuffled(n: usize, window: impl Fn(u32) -> (u32, u32), lengths: impl Fn(u32) 
 
 /// n nested windows, each a frame wider on both sides than the next inside it.
 fn nest(n: usize, lengths: impl Fn(u32) -> (u32, u32)) -> Table {
-    shuffled(n, |i| (7 + i, 7 + 2 * n as u32 - i), lengths)
+    shuffled(n, |i| (6 + i, 7 + 2 * n as u32 - i), lengths)
 }
 
-/// n similar windows of three frames, each a frame later than the one before it.
+/// n similar windows of four frames, each a frame later than the one before it.
 fn sequence(n: usize, lengths: impl Fn(u32) -> (u32, u32)) -> Table {
-    shuffled(n, |i| (7 + i, 10 + i), lengths)
+    shuffled(n, |i| (6 + i, 10 + i), lengths)
 }
 
 /// Everything fits: 200 ticks more in each window, at most 180 of work.
@@ -245,8 +246,9 @@ fn main() {
     let (_, marks, columns) = planned(&most_runs(64));
     judge("judge 64 tasks, 127 runs", &inputs::pack(&most_runs(64)), &marks, &columns);
     let one = table(&[Task { release: 0, deadline: 200, mandatory: 4096, optional: 0 }]);
+    let first = one.clock(LAUNCH).release(0);
     let mut many = Columns::default();
-    (0..4096).for_each(|i| many.push((3 * i, 3 * i + 1, 0)));
+    (0..4096).for_each(|i| many.push((first + 3 * i, first + 3 * i + 1, 0)));
     judge("judge 1 task, 4,096 runs", &inputs::pack(&one), &[1], &many);
     let (a, b) = (1000, 11000);
     let times = both(

@@ -200,14 +200,14 @@ fn compare_judge(random: &mut Random) -> Outcome {
 /// One task whose ticks are all runs of their own: the most runs, and one more.
 fn compare_judge_long(random: &mut Random) -> Outcome {
     let length = random.between(4090, 4100);
-    let task = reference::Task { release: 0, deadline: 2 * length, mandatory: length, optional: 0 };
+    let task = reference::Task { release: 0, deadline: 2 * length + 1, mandatory: length, optional: 0 };
     let mut table = Table { count: 1, p: 1, q: 1, ..Table::ZERO };
     table.tasks[0] = task;
     let file = inputs::pack(&table);
     let launch = inputs::launch(random);
     let mut columns = inputs::Columns::default();
     for i in 0..length {
-        let start = launch.min(MAX_LAUNCH) + 2 * i + random.up_to(1);
+        let start = launch.min(MAX_LAUNCH) + 1 + 2 * i + random.up_to(1);
         columns.push((start, start + 1, 0));
     }
     if random.once_in(3) {
@@ -259,9 +259,8 @@ fn small_table(random: &mut Random) -> Table {
             }
         }
         let clock = table.clock(0);
-        let ticks = |task: &reference::Task| clock.deadline(task.deadline) - clock.release(task.release);
         let last = table.tasks().iter().map(|task| clock.deadline(task.deadline)).max().unwrap_or(0);
-        if table.tasks().iter().all(|task| ticks(task) <= 60) && last <= 200 {
+        if table.tasks().iter().all(|task| clock.ticks(task) <= 60) && last <= 200 {
             return table;
         }
     }
@@ -318,7 +317,8 @@ fn plan_with(plan: Plan, file: &[u8], launch: u32, n: usize) -> (Planned, Vec<u8
 /// Noon, in ticks of the day.
 const NOON: u32 = 43_200_000;
 
-/// The samples of the rules that a plan or a move shows, P4 to P12, the limits on the count, and launch ticks.
+/// The samples of the rules that a plan or a move shows: the releases of P1 to P3 and the deadline of P2, P4 to P12, empty windows, the limits on the
+/// count, and launch ticks.
 fn samples() -> Result<usize, String> {
     type Fields<'a> = &'a [(u32, u32, u32, u32)];
     type Runs<'a> = &'a [(u32, u32, u32)];
@@ -336,24 +336,38 @@ fn samples() -> Result<usize, String> {
     let refused = |number, place, n: usize| (Planned { number, place, kept: 0, discarded: 0, runs: 0 }, vec![9; n], vec![]);
     let four = [0x02, 0x0c, 0x80, 0x02, 0x00, 0x00, 0x00, 0x01, 0x00, 0xc8, 0x01, 0x90];
     let plans = [
-        ("P4", four.to_vec(), planned(1, 0, &[1], &[(50, 200, 0)])),
-        ("P4 packed", file(100, 1, &[(0, 2, 100, 50)]), planned(1, 0, &[1], &[(50, 200, 0)])),
-        ("P5", file(100, 1, &[(0, 2, 200, 1)]), planned(0, 1, &[0], &[(0, 200, 0)])),
+        // These similar tasks begin at their releases, and the nested one ends at its deadline.
+        (
+            "the releases of P3, P1 and P2",
+            file(1001, 10, &[(0, 2, 1, 0), (1, 3, 1, 0), (72_000, 72_002, 1, 0)]),
+            planned(0, 0, &[1, 1, 1], &[(101, 102, 0), (201, 202, 1), (7_207_301, 7_207_302, 2)]),
+        ),
+        ("the deadline of P2", file(1001, 10, &[(0, 72_000, 1, 0)]), planned(0, 0, &[1], &[(7_207_199, 7_207_200, 0)])),
+        ("P4", four.to_vec(), planned(0, 1, &[0], &[(100, 200, 0)])),
+        ("P4 packed", file(100, 1, &[(0, 2, 100, 50)]), planned(0, 1, &[0], &[(100, 200, 0)])),
+        ("P5", file(100, 1, &[(0, 2, 200, 1)]), refused(8, 0, 1)),
         ("P6", file(100, 1, &[(0, 2, 201, 0)]), refused(8, 0, 1)),
         ("P7", file(100, 1, &[(0, 2, 0, 0)]), planned(0, 0, &[1], &[])),
-        ("P8", file(1, 1, three), planned(2, 1, &[1, 0, 1], &[(2, 4, 0), (4, 6, 2), (6, 7, 0), (7, 8, 1), (8, 10, 0)])),
-        ("P9", file(1, 1, &[(0, 5, 2, 3), (5, 9, 1, 2)]), planned(2, 0, &[1, 1], &[(0, 5, 0), (5, 8, 1)])),
+        ("P8", file(1, 1, three), planned(1, 2, &[1, 0, 0], &[(3, 5, 0), (5, 6, 2), (6, 7, 0), (7, 8, 1), (8, 10, 0)])),
+        ("P9", file(1, 1, &[(0, 5, 2, 3), (5, 9, 1, 2)]), planned(1, 1, &[0, 1], &[(1, 3, 0), (6, 9, 1)])),
         ("P10", file(1, 1, &[(0, 4, 0, 3), (0, 4, 0, 3)]), planned(1, 1, &[0, 1], &[(1, 4, 1)])),
         ("P11", file(5, 4, &[(1, 2, 1, 0)]), refused(8, 0, 1)),
         // Similar tables. Of two parts that don't both fit the one of the later task is kept, though it is longer.
-        ("the last keeps", file(1, 1, &[(2, 6, 1, 3), (0, 4, 1, 2)]), planned(1, 1, &[1, 0], &[(0, 1, 1), (2, 6, 0)])),
+        ("the last keeps", file(1, 1, &[(2, 7, 1, 3), (0, 5, 1, 2)]), planned(1, 1, &[1, 0], &[(1, 2, 1), (3, 7, 0)])),
         // Beside task 2's part one of the two others fits: that of task 1, the later, though with task 0's all would end earlier.
-        ("not the least end", file(1, 1, &[(0, 4, 0, 1), (0, 5, 0, 4), (1, 7, 1, 2)]), planned(2, 1, &[0, 1, 1], &[(0, 4, 1), (4, 7, 2)])),
-        // A task of no work is not tested against its window, which has no ticks.
-        ("no work", file(5, 4, &[(1, 2, 0, 0), (2, 4, 1, 0)]), planned(0, 0, &[1, 1], &[(3, 4, 1)])),
-        ("no work and no room", file(5, 4, &[(1, 2, 0, 1), (2, 4, 1, 0)]), planned(0, 1, &[0, 1], &[(3, 4, 1)])),
+        ("not the least end", file(1, 1, &[(0, 5, 0, 1), (0, 6, 0, 4), (1, 8, 1, 2)]), planned(2, 1, &[0, 1, 1], &[(1, 5, 1), (5, 8, 2)])),
         // Task 0 runs first, and then task 2 ends too late.
-        ("place of 8", file(1, 1, &[(0, 3, 3, 0), (2, 9, 1, 0), (1, 4, 2, 0)]), refused(8, 2, 3)),
+        ("place of 8", file(1, 1, &[(0, 4, 3, 0), (2, 10, 1, 0), (1, 5, 2, 0)]), refused(8, 2, 3)),
+        // Empty windows: of frames 1 to 2 the release is the deadline tick at period 1/1, and the tick after it at 5/4. A task of no work in one
+        // hinders nobody, an optional part is discarded, a mandatory part refused.
+        ("similar, empty at 2", file(1, 1, &[(1, 2, 0, 1), (2, 4, 1, 0)]), planned(0, 1, &[0, 1], &[(3, 4, 1)])),
+        ("similar, 3 after 2", file(5, 4, &[(1, 2, 0, 0), (2, 4, 1, 0)]), planned(0, 0, &[1, 1], &[(4, 5, 1)])),
+        ("similar, 3 after 2, a part", file(5, 4, &[(1, 2, 0, 1), (2, 4, 1, 0)]), planned(0, 1, &[0, 1], &[(4, 5, 1)])),
+        ("similar, 3 after 2, work", file(5, 4, &[(2, 4, 1, 0), (1, 2, 1, 0)]), refused(8, 1, 2)),
+        ("nested, empty at 2", file(1, 1, &[(0, 4, 2, 1), (1, 2, 0, 1)]), planned(1, 1, &[1, 0], &[(1, 4, 0)])),
+        ("nested, 3 after 2", file(5, 4, &[(0, 4, 2, 1), (0, 2, 0, 0), (1, 2, 0, 0)]), planned(1, 0, &[1, 1, 1], &[(2, 5, 0)])),
+        ("nested, 3 after 2, a part", file(5, 4, &[(0, 4, 2, 0), (1, 3, 0, 1), (1, 2, 0, 1)]), planned(0, 2, &[1, 0, 0], &[(3, 5, 0)])),
+        ("nested, 3 after 2, work", file(5, 4, &[(0, 4, 2, 0), (1, 2, 1, 0)]), refused(8, 1, 2)),
         // Tasks 0 and 1 are similar and not nested, tasks 0 and 2 nested and not similar.
         ("place of 7", file(1, 1, &[(0, 5, 0, 0), (5, 9, 0, 0), (1, 4, 0, 0)]), refused(7, 2, 3)),
         ("place of 7, nested first", file(1, 1, &[(0, 5, 0, 0), (1, 4, 0, 0), (0, 5, 0, 0), (5, 9, 0, 0)]), refused(7, 3, 4)),
@@ -374,7 +388,7 @@ fn samples() -> Result<usize, String> {
         }
     }
     let eight = file(1, 1, three);
-    let judgements = judged_samples(&eight)?;
+    let judgements = judged_samples(&eight, &file(5, 4, &[(1, 2, 1, 0)]))?;
     let moved = Written { number: 10, place: 0, bytes: 0 };
     same("P12", &ffi::shift(&eight, -1, &mut [0; 28]), &moved, || hex(&eight))?;
     same("P12, reference", &Written::from(reference::shift(&eight, -1, &mut [0; 28])), &moved, || hex(&eight))?;
@@ -386,13 +400,13 @@ fn samples() -> Result<usize, String> {
     Ok(2 * plans.len() * launches.len() + judgements + 4)
 }
 
-/// P8 planned at noon and judged, and what comes behind 14 in planning and judging. P8's file is given.
-fn judged_samples(eight: &[u8]) -> Result<usize, String> {
-    let marks = [1, 0, 1];
-    let runs = [(2, 4, 0), (4, 6, 2), (6, 7, 0), (7, 8, 1), (8, 10, 0)];
+/// P8 planned at noon and judged, runs near an empty window, and what comes behind 14 in planning and judging. The files of P8 and P11 are given.
+fn judged_samples(eight: &[u8], eleven: &[u8]) -> Result<usize, String> {
+    let marks = [1, 0, 0];
+    let runs = [(3, 5, 0), (5, 6, 2), (6, 7, 0), (7, 8, 1), (8, 10, 0)];
     let mut at_noon = inputs::Columns::default();
     runs.iter().for_each(|&(start, end, task)| at_noon.push((NOON + start, NOON + end, task)));
-    let yes = Judged { number: 0, place: 0, yes: true, kept: 2, discarded: 1 };
+    let yes = Judged { number: 0, place: 0, yes: true, kept: 1, discarded: 2 };
     let no = Judged { number: 0, place: 0, yes: false, kept: 0, discarded: 0 };
     let refused = |number, place| Judged { number, place, ..no };
     let (short, beyond) = (&eight[..27], MAX_LAUNCH + 1);
@@ -414,6 +428,14 @@ fn judged_samples(eight: &[u8]) -> Result<usize, String> {
             same(&format!("judging, {name}, {name_of_judge} and the rules"), &said, &expected, || hex(file))?;
         }
     }
+    // No run is inside P11's window, released at tick 3 and due at tick 2.
+    let outside = [(1, 2), (2, 3), (3, 4)];
+    for (start, end) in outside {
+        for (name_of_judge, judge) in JUDGES {
+            let said = judge(eleven, 0, &[1], &[start], &[end], &[0]);
+            same(&format!("judging, P11 with a run from {start} to {end}, {name_of_judge} and the rules"), &said, &no, || hex(eleven))?;
+        }
+    }
     let refusals = [("1 before 14", short, beyond, 1, 27), ("14 before 9", eight, beyond, 14, 0), ("9 at noon", eight, NOON, 9, 0)];
     for (name, file, launch, number, place) in refusals {
         let expected = Planned { number, place, kept: 0, discarded: 0, runs: 0 };
@@ -422,7 +444,7 @@ fn judged_samples(eight: &[u8]) -> Result<usize, String> {
             same(&format!("planning with 2 marks, {name}, {planner} and the rules"), &said, &expected, || hex(file))?;
         }
     }
-    Ok(2 * cases.len() + 2 * refusals.len())
+    Ok(2 * (cases.len() + outside.len() + refusals.len()))
 }
 
 /// Outcomes counted apart beside the refusals: a judge's yes; a plan of nested windows that discards; plans of similar windows.
@@ -430,19 +452,24 @@ const YES: u32 = 20;
 const DROPPED: u32 = 21;
 const SIMILAR: u32 = 22;
 const SIMILAR_DROPPED: u32 = 23;
+/// Added to the outcome of planning a table that has an empty window.
+const EMPTY: u32 = 24;
 
 /// The outcome of planning a file.
 fn plan_outcome(file: &[u8], said: Planned) -> u32 {
-    if said.number > 0 {
+    let Ok(table) = reference::read(file) else {
         return said.number;
-    }
-    let similar = reference::read(file).is_ok_and(|table| reference::check_windows(table.tasks()) == Ok(Kind::Similar));
-    match (similar, said.discarded > 0) {
-        (false, false) => 0,
-        (false, true) => DROPPED,
-        (true, false) => SIMILAR,
-        (true, true) => SIMILAR_DROPPED,
-    }
+    };
+    let similar = reference::check_windows(table.tasks()) == Ok(Kind::Similar);
+    let outcome = match (said.number, similar, said.discarded > 0) {
+        (0, false, false) => 0,
+        (0, false, true) => DROPPED,
+        (0, true, false) => SIMILAR,
+        (0, true, true) => SIMILAR_DROPPED,
+        (number, ..) => number,
+    };
+    let empty = table.tasks().iter().any(|task| table.clock(0).ticks(task) == 0);
+    outcome + if empty { EMPTY } else { 0 }
 }
 
 struct Call {
@@ -474,22 +501,28 @@ fn all() -> Result<(), String> {
     println!("{:<10} {:>7} cases, no difference", "samples", samples()?);
     let mut total = 0;
     for (index, call) in CALLS.iter().enumerate() {
-        let mut counts = [0u64; 24];
+        let (mut counts, mut empty) = ([0u64; EMPTY as usize], [0u64; EMPTY as usize]);
         for seed in 0..call.cases {
-            counts[case(index, seed)? as usize] += 1;
+            let outcome = case(index, seed)?;
+            counts[(outcome % EMPTY) as usize] += 1;
+            empty[(outcome % EMPTY) as usize] += u64::from(outcome >= EMPTY);
         }
         total += call.cases;
         let kinds: Vec<String> = (0..counts.len())
             .filter(|&number| counts[number] > 0)
-            .map(|number| match (call.name, number) {
-                ("judge" | "judge-long", 0) => format!("no: {}", counts[0]),
-                ("plan" | "brute", 0) => format!("nested, all kept: {}", counts[0]),
-                (_, 0) => format!("accepted: {}", counts[0]),
-                (_, 20) => format!("yes: {}", counts[20]),
-                (_, 21) => format!("nested, some discarded: {}", counts[21]),
-                (_, 22) => format!("similar, all kept: {}", counts[22]),
-                (_, 23) => format!("similar, some discarded: {}", counts[23]),
-                _ => format!("refusal {number}: {}", counts[number]),
+            .map(|number| {
+                let kind = match (call.name, number) {
+                    ("judge" | "judge-long", 0) => "no".into(),
+                    ("plan" | "brute", 0) => "nested, all kept".into(),
+                    (_, 0) => "accepted".into(),
+                    (_, 20) => "yes".into(),
+                    (_, 21) => "nested, some discarded".into(),
+                    (_, 22) => "similar, all kept".into(),
+                    (_, 23) => "similar, some discarded".into(),
+                    _ => format!("refusal {number}"),
+                };
+                let of_these = if empty[number] > 0 { format!(" ({} with an empty window)", empty[number]) } else { String::new() };
+                format!("{kind}: {}{of_these}", counts[number])
             })
             .collect();
         println!("{:<10} {:>7} cases, no difference ({})", call.name, call.cases, kinds.join(", "));
@@ -504,7 +537,7 @@ fn main() -> ExitCode {
     let done = match arguments.as_slice() {
         [] => all(),
         [name, seed] => match (CALLS.iter().position(|call| call.name == name), seed.parse()) {
-            (Some(index), Ok(seed)) => case(index, seed).map(|number| println!("{name} of seed {seed}: no difference (number {number})")),
+            (Some(index), Ok(seed)) => case(index, seed).map(|number| println!("{name} of seed {seed}: no difference (number {})", number % EMPTY)),
             _ => Err("usage: compare [CALL SEED]".into()),
         },
         _ => Err("usage: compare [CALL SEED]".into()),
