@@ -1,5 +1,5 @@
--- Laws of the way back: the decisions give the marks that are read back from the rows.
-use Prim.Native.Nat.{ℕ, zero, suc, _+_, _*_, _-_, _≤_, _<_}
+-- Laws of the way back: the ranks give the marks that are read back from the rows.
+use Prim.Native.Nat.{ℕ, zero, suc, _+_, _-_, _≤_, _<_}
 use mathlib.Core.Path.{_≡_, refl, sym, ap, _∙_}
 use mathlib.Core.List.{List, [], _∷_}
 use mathlib.Core.Bool.{Bool, true, false}
@@ -16,8 +16,8 @@ use Rattle.base.proofs.TestLaws.{pick-cases}
 use Rattle.schedule.specs.declared.Job.{Job}
 use Rattle.choice.specs.Choice.{countOne}
 use Rattle.choice.specs.Programme.{keeping, backtrack}
-use Rattle.choice.specs.Decisions.{rowPlaces, hugeTicks, rowOf, backOf, keepsOver, jobsFrom, Decided}
-use Rattle.choice.proofs.ProgrammeLaws.{row-is, keeping-is, row-below}
+use Rattle.choice.specs.Decisions.{hugeTicks, rowOf, backOf, keepsOver, keepsAbove, jobsFrom, Decided}
+use Rattle.choice.proofs.ProgrammeLaws.{row-is, keeping-is}
 
 -- the marks where a job is kept, and the row inside it, which is below huge
 pub back-kept : (job : Job) (jobs : List Job) (v : ℕ) → rowOf (job ∷ jobs) v < hugeTicks → keepsOver job (rowOf jobs) v ≡ true
@@ -75,10 +75,10 @@ module _ (at : ℕ → Job) (count : ℕ) where
         filled = filled-start _ _ _ _;
       }
 
-  -- the decision that is read: where the row is below huge, it was written
-  pub walked-decision : (marks : List Bool) (i v : ℕ) (keeps decisions : List Bool) → Walked at count marks i v keeps → i < count → Decided at count 0 decisions
-      → getD decisions (rowPlaces * i + v) false ≡ keepsOver (at i) (rowOf (jobsFrom at count (i + 1))) v
-  walked-decision marks i v keeps decisions f l d = d .decided i (omega arith) l v (row-below countOne hugeTicks (jobsFrom at count i) v (f .below))
+  -- what the rank says: where the row is below huge, it is the decision
+  pub walked-decision : (marks : List Bool) (i v : ℕ) (keeps : List Bool) (ranks : List ℕ) → Walked at count marks i v keeps → i < count → Decided at count 0 ranks
+      → keepsAbove (at i) (getD ranks i 0) v ≡ keepsOver (at i) (rowOf (jobsFrom at count (i + 1))) v
+  walked-decision marks i v keeps ranks f l d = d .decided i (omega arith) l v (f .below)
 
   -- one mark is written
   walked-step : (marks : List Bool) (i v w : ℕ) (keeps : List Bool) (x : Bool) → count ≤ maxTasks → Walked at count marks i v keeps → i < count → w ≤ v

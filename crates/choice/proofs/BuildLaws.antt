@@ -1,190 +1,164 @@
--- Laws of the rows that the code builds, from the innermost job outwards, and of the best worth that it finds in the last.
-use Prim.Native.Nat.{ℕ, zero, suc, _+_, _*_, _-_, _≤_, _<_, min}
-use mathlib.Core.Path.{_≡_, refl, sym, ap, _∙_}
-use mathlib.Core.List.{List, [], _∷_}
-use mathlib.Core.Bool.{Bool, true, false}
+-- Laws of the rows that the code builds, from the innermost job outwards, and of the most parts that it finds.
+use Prim.Native.Nat.{ℕ, zero, suc, _+_, _*_, _-_, _≤_, _<_}
+use mathlib.Core.Path.{_≡_, sym, ap, _∙_}
+use mathlib.Core.List.{List, _∷_}
+use mathlib.Core.Bool.{true, false}
 use native.Mathlib.Omega.{arith}
-use native.Mathlib.Decide.{decLt, ℕ-discrete}
-use lib.Dec.{leb, ltb}
-use lib.ListN.{length, getD, set, replicate, length-set, length-replicate, getD-replicate}
-use lib.Seq.{getD-set-other}
-use Rattle.base.specs.Limits.{maxTasks, maxTicks}
+use native.Mathlib.Decide.{ℕ-discrete}
+use lib.ListN.{length, getD, set, replicate, length-set, length-replicate}
+use lib.Seq.{getD-set-same, getD-set-other}
+use Rattle.base.specs.Limits.{maxTasks, maxTicks, lastTick}
 use Rattle.base.specs.Places.{placesFrom, places}
-use Rattle.base.proofs.PlaceLaws.{left-step, left-end}
+use Rattle.base.proofs.PlaceLaws.{left-start, left-step, left-end}
 use Rattle.base.proofs.TestLaws.{pick-cases}
 use Rattle.schedule.specs.declared.Job.{Job}
 use Rattle.schedule.specs.Jobs.{Bounded, counts, windowTicks}
 use Rattle.choice.specs.Choice.{fits, keepNone, countOne, kept, discarded, chosen}
-use Rattle.choice.specs.Programme.{mandatorySum, outermostTicks, allWorth, ifRoom, keeping, row, greatest, bestWorth, byRows}
-use Rattle.choice.specs.Decisions.{rowPlaces, hugeTicks, rowOf, backOf, outerRow, keepsOver, jobsFrom, Rewritten, Decided}
-use Rattle.choice.proofs.ProgrammeLaws.{row-most, row-beyond}
-use Rattle.choice.proofs.FitLaws.{fits-length, ticks-outermost, worth-split}
+use Rattle.choice.specs.Programme.{mandatorySum, outermostTicks, allWorth, row, greatest, bestWorth, byRows}
+use Rattle.choice.specs.Decisions.{rowPlaces, hugeTicks, rowOf, backOf, jobsFrom, Reaches, Convex, JobAdded, Decided}
+use Rattle.choice.proofs.ProgrammeLaws.{greatest-only, greatest-same, row-below}
+use Rattle.choice.proofs.FitLaws.{fits-length, fits-tail, fits-room, ticks-outermost, worth-split}
 use Rattle.choice.proofs.ChoiceLaws.{chosen-rows, chosen-keeps}
+use Rattle.choice.proofs.PartLaws.{Widened, widened, Cut, row-cut}
 
 -- an optional part counts 1 at most
 pub countOne-most : (job : Job) → countOne job ≤ 1
 countOne-most job = pick-cases (λ n. n ≤ 1) (counts job) (λ e. omega arith) (λ e. omega arith)
 
--- a number of the row outside, from the window, and the ticks with the job kept and with it discarded
-pub outer-made : (job : Job) (mandatory : ℕ) (inner : ℕ → ℕ) (v window with without r : ℕ) → window ≡ windowTicks job
-    → with ≡ keeping countOne hugeTicks job inner v → without ≡ inner v → r ≡ ifRoom hugeTicks mandatory window (min with without)
-    → r ≡ outerRow job mandatory inner v
-unfolding outerRow
-outer-made job mandatory inner v window with without r e k d m = m ∙ rw (e, k, d)
+-- the jobs from each place on fit with nothing kept, where all of them do
+pub none-from : (at : ℕ → Job) (count : ℕ) → fits (places at count) (keepNone (places at count)) ≡ true → (i : ℕ) → i ≤ count
+    → fits (jobsFrom at count i) (keepNone (jobsFrom at count i)) ≡ true
+none-from at count none zero l = rw (left-start at count) none
+none-from at count none (suc i) l =
+    let e : i + 1 ≡ suc i = omega arith in
+    let h = rw (left-step at count i (omega arith)) at (none-from at count none i (omega arith)) in
+    rw e at (fits-tail (at i) (jobsFrom at count (i + 1)) false (keepNone (jobsFrom at count (i + 1))) h)
 
--- and the job's decision there
-pub keeps-made : (job : Job) (inner : ℕ → ℕ) (v with without : ℕ) → with ≡ keeping countOne hugeTicks job inner v → without ≡ inner v
-    → leb with without ≡ keepsOver job inner v
-unfolding keepsOver
-keeps-made job inner v with without k d = rw (k, d)
-
--- what the row outside is made of: the row inside, up to v
-pub keeping-same : (job : Job) (f g : ℕ → ℕ) (v : ℕ) → ((k : ℕ) → k ≤ v → f k ≡ g k)
-    → keeping countOne hugeTicks job f v ≡ keeping countOne hugeTicks job g v
-unfolding keeping
-keeping-same job f g v h = rw (h (v - countOne job) (omega arith))
-
-outer-same : (job : Job) (mandatory : ℕ) (f g : ℕ → ℕ) (v : ℕ) → ((k : ℕ) → k ≤ v → f k ≡ g k) → outerRow job mandatory f v ≡ outerRow job mandatory g v
-unfolding outerRow
-outer-same job mandatory f g v h = rw (keeping-same job f g v h, h v (omega arith))
-
-keeps-same : (job : Job) (f g : ℕ → ℕ) (v : ℕ) → ((k : ℕ) → k ≤ v → f k ≡ g k) → keepsOver job f v ≡ keepsOver job g v
-unfolding keepsOver
-keeps-same job f g v h = rw (keeping-same job f g v h, h v (omega arith))
-
--- from the row inside it is the row
-outer-is : (job : Job) (jobs : List Job) (mandatory : ℕ) → mandatory ≡ mandatorySum (job ∷ jobs) → (v : ℕ)
-    → outerRow job mandatory (rowOf jobs) v ≡ rowOf (job ∷ jobs) v
-unfolding outerRow row
-outer-is job jobs mandatory e v = rw e
-
--- rows that agree up to n have the same greatest place
-pub greatest-same : (f g : ℕ → ℕ) (n : ℕ) → ((k : ℕ) → k ≤ n → f k ≡ g k) → greatest hugeTicks f n ≡ greatest hugeTicks g n
-unfolding greatest
-greatest-same f g zero h = refl
-greatest-same f g (suc n) h = rw (h (suc n) (omega arith), greatest-same f g n (λ k l. h k (omega arith)))
-
--- the greatest place is in its range
-pub greatest-most : (f : ℕ → ℕ) (n : ℕ) → greatest hugeTicks f n ≤ n
-unfolding greatest
-greatest-most f zero = omega arith
-greatest-most f (suc n) = pick-cases (λ m. m ≤ suc n) (ltb (f (suc n)) hugeTicks) (λ e. omega arith) (λ e. omega (arith, greatest-most f n))
-
--- The rows are built down to place i: the row of the jobs from there on, the decisions of each, their mandatory ticks and their number of
--- optional parts above 0 ticks.
-pub record Built (at : ℕ → Job) (count i : ℕ) (ticks : List ℕ) (decisions : List Bool) (mandatory all : ℕ) : Type 0 where
+-- The rows are built down to place i: the row of the jobs from there on, up to the most parts that a list of them keeps, the rank of each, their
+-- mandatory ticks and the number of their optional parts above 0 ticks.
+pub record Built (at : ℕ → Job) (count i : ℕ) (ticks ranks : List ℕ) (mandatory all top : ℕ) : Type 0 where
   pub within-is : i ≤ count
   pub length-is : length ticks ≡ rowPlaces
-  pub numbers : (v : ℕ) → v ≤ count → getD ticks v 0 ≡ rowOf (jobsFrom at count i) v
-  pub places : length decisions ≡ rowPlaces * maxTasks
-  pub decided : Decided at count i decisions
+  pub numbers : (v : ℕ) → v ≤ top → getD ticks v 0 ≡ rowOf (jobsFrom at count i) v
+  pub reaches : Reaches (rowOf (jobsFrom at count i)) top
+  pub convex : Convex (rowOf (jobsFrom at count i)) top
+  pub small : rowOf (jobsFrom at count i) top ≤ lastTick
+  pub places : length ranks ≡ maxTasks
+  pub decided : Decided at count i ranks
   pub mandatory-is : mandatory ≡ mandatorySum (jobsFrom at count i)
   pub mandatory-most : mandatory + maxTicks * i ≤ maxTicks * count
   pub all-is : all ≡ allWorth countOne (jobsFrom at count i)
   pub all-most : all + i ≤ count
-
--- the row of no job
-first-row : (v : ℕ) → v ≤ maxTasks → getD (set (replicate rowPlaces hugeTicks) 0 0) v 0 ≡ rowOf [] v
-unfolding row
-first-row zero l = refl
-first-row (suc v) l = rw (getD-set-other (replicate rowPlaces hugeTicks) 0 (suc v) 0 0 (omega arith)) (getD-replicate rowPlaces (suc v) hugeTicks 0 (omega arith))
+  pub top-most : top + i ≤ count
 
 module _ (at : ℕ → Job) (count : ℕ) (small : count ≤ maxTasks) where
   -- no row is built yet
-  pub built-start : (ticks : List ℕ) (decisions : List Bool) → ticks ≡ replicate rowPlaces hugeTicks → length decisions ≡ rowPlaces * maxTasks
-      → Built at count count (set ticks 0 0) decisions 0 0
-  unfolding mandatorySum allWorth
-  built-start ticks decisions blank len =
+  pub built-start : (ticks ranks : List ℕ) → ticks ≡ replicate rowPlaces 0 → length ranks ≡ maxTasks → Built at count count ticks ranks 0 0 0
+  unfolding mandatorySum allWorth row
+  built-start ticks ranks blank len =
+      let end = left-end at count count (omega arith) in
       record {
         within-is = omega arith;
-        length-is = length-set ticks 0 0 ∙ (ap length blank ∙ length-replicate rowPlaces hugeTicks);
-        numbers = λ v l. rw (left-end at count count (omega arith), blank) (first-row v (omega arith));
+        length-is = ap length blank ∙ length-replicate {A = ℕ} rowPlaces 0;
+        numbers = λ v l.
+            let z : v ≡ 0 = omega arith in
+            rw (end, blank, z);
+        reaches = record {
+          below = λ v l.
+              let z : v ≡ 0 = omega arith in
+              rw (end, z) (omega arith);
+          beyond = λ v l.
+              let s : v ≡ suc (v - 1) = omega arith in
+              rw (end, s);
+        };
+        convex = record { first = λ l. absurd (omega arith); steps = λ v l. absurd (omega arith) };
+        small = rw end (omega arith);
         places = len;
         decided = record { decided = λ k l m. absurd (omega arith) };
-        mandatory-is = rw (left-end at count count (omega arith));
+        mandatory-is = rw end;
         mandatory-most = omega arith;
-        all-is = rw (left-end at count count (omega arith));
+        all-is = rw end;
         all-most = omega arith;
+        top-most = omega arith;
       }
 
-  -- no number of a row is above huge
-  pub built-below : (i : ℕ) (ticks : List ℕ) (decisions : List Bool) (mandatory all : ℕ) → Built at count i ticks decisions mandatory all
-      → (v : ℕ) → v ≤ count → getD ticks v 0 ≤ hugeTicks
-  built-below i ticks decisions mandatory all b v l = rw (b .numbers v l) (row-most countOne hugeTicks (jobsFrom at count i) v)
+  -- no number of the row is above huge
+  pub built-below : (i : ℕ) (ticks ranks : List ℕ) (mandatory all top : ℕ) → Built at count i ticks ranks mandatory all top
+      → (v : ℕ) → v ≤ top → getD ticks v 0 ≤ hugeTicks
+  built-below i ticks ranks mandatory all top b v l = omega (arith, b .numbers v l, b .reaches .below v l)
 
   -- one job more
-  module _ (i : ℕ) (ticks : List ℕ) (decisions : List Bool) (mandatory all : ℕ) (b : Built at count (i + 1) ticks decisions mandatory all)
-      (worth : ℕ) (one : worth ≡ countOne (at i)) where
+  module _ (none : fits (places at count) (keepNone (places at count)) ≡ true) (i : ℕ) (ticks ranks : List ℕ) (mandatory all top : ℕ)
+      (b : Built at count (i + 1) ticks ranks mandatory all top) where
     -- the jobs from it on are the job and those inside it
     from-step : jobsFrom at count i ≡ at i ∷ jobsFrom at count (i + 1)
     from-step = left-step at count i (omega (arith, b .within-is))
-
-    -- up to v the row that is written over is that of the jobs inside
-    inner-same : (v : ℕ) → v ≤ count → (k : ℕ) → k ≤ v → getD ticks k 0 ≡ rowOf (jobsFrom at count (i + 1)) k
-    inner-same v l k m = b .numbers k (omega arith)
-
-    -- its parts and those of the jobs inside it are counted
-    all-step : all + worth ≡ allWorth countOne (jobsFrom at count i)
-    unfolding allWorth
-    all-step = rw from-step (omega (arith, b .all-is))
 
     -- its mandatory ticks are added
     mandatory-step : mandatory + at i .mandatory ≡ mandatorySum (at i ∷ jobsFrom at count (i + 1))
     unfolding mandatorySum
     mandatory-step = omega (arith, b .mandatory-is)
 
-    -- the numbers up to all parts are made anew, and beyond them both rows are huge
-    numbers-step : (next : List ℕ) → Rewritten 0 (outerRow (at i) (mandatory + at i .mandatory) (λ k. getD ticks k 0)) 0 0 (all + worth + 1) ticks next
-        → (v : ℕ) → v ≤ count → getD next v 0 ≡ rowOf (jobsFrom at count i) v
-    numbers-step next made v l =
-        let here : 0 + v ≡ v = omega arith in
-        elim (decLt (all + worth) v) [
-          | yes m ↦
-              made .beyond v (omega arith)
-              ∙ (b .numbers v l
-              ∙ (row-beyond countOne hugeTicks (jobsFrom at count (i + 1)) v (omega (arith, b .all-is))
-              ∙ sym (row-beyond countOne hugeTicks (jobsFrom at count i) v (omega (arith, all-step)))))
-          | no m ↦
-              rw here at (made .written v (omega arith) (omega arith))
-              ∙ (outer-same (at i) (mandatory + at i .mandatory) (λ k. getD ticks k 0) (rowOf (jobsFrom at count (i + 1))) v (inner-same v l)
-              ∙ rw from-step (outer-is (at i) (jobsFrom at count (i + 1)) _ mandatory-step v))
-        ]
+    -- they fit with nothing kept
+    none-step : fits (at i ∷ jobsFrom at count (i + 1)) (keepNone (at i ∷ jobsFrom at count (i + 1))) ≡ true
+    none-step = rw from-step at (none-from at count none i (omega (arith, b .within-is)))
 
-    -- the job's decisions are written, and those of the jobs inside it stand beyond them
-    decided-step : (next : List Bool) → Rewritten false (keepsOver (at i) (λ k. getD ticks k 0)) (rowPlaces * i) 0 (all + worth + 1) decisions next
-        → Decided at count i next
-    decided-step next made =
-        record {
-          decided = λ k l m v n.
-              elim (ℕ-discrete k i) [
-                | yes s ↦
-                    let h : v ≤ allWorth countOne (jobsFrom at count i) = rw s at n in
-                    rw s
-                    (made .written v (omega arith) (omega (arith, all-step))
-                    ∙ keeps-same (at i) (λ k. getD ticks k 0) (rowOf (jobsFrom at count (i + 1))) v (inner-same v (omega (arith, all-step, b .all-most, countOne-most (at i)))))
-                | no s ↦
-                    made .beyond (rowPlaces * k + v) (omega (arith, b .all-most, countOne-most (at i)))
-                    ∙ b .decided .decided k (omega arith) m v n
-              ];
-        }
+    -- so the window has room for the mandatory ticks
+    pub mandatory-room : mandatory + at i .mandatory ≤ windowTicks (at i)
+    mandatory-room = omega (arith, mandatory-step, fits-room (at i) (jobsFrom at count (i + 1)) false (keepNone (jobsFrom at count (i + 1))) none-step)
 
-    -- the row of one job more
-    pub built-step : Bounded (at i) → (next : List ℕ) (decided : List Bool)
-        → Rewritten 0 (outerRow (at i) (mandatory + at i .mandatory) (λ k. getD ticks k 0)) 0 0 (all + worth + 1) ticks next
-        × Rewritten false (keepsOver (at i) (λ k. getD ticks k 0)) (rowPlaces * i) 0 (all + worth + 1) decisions decided
-        → Built at count i next decided (mandatory + at i .mandatory) (all + worth)
-    built-step bounded next decided made =
-        record {
-          within-is = omega (arith, b .within-is);
-          length-is = made .0 .same-length ∙ b .length-is;
-          numbers = numbers-step next (made .0);
-          places = made .1 .same-length ∙ b .places;
-          decided = decided-step decided (made .1);
-          mandatory-is = rw from-step mandatory-step;
-          mandatory-most = omega (arith, b .mandatory-most, bounded .mandatory);
-          all-is = all-step;
-          all-most = omega (arith, b .all-most, countOne-most (at i));
-        }
+    module _ (bounded : Bounded (at i)) (worth rank next room : ℕ) (row : List ℕ) (one : worth ≡ countOne (at i)) (added : JobAdded (at i) top rank ticks row)
+        (room-is : room ≡ windowTicks (at i) - (mandatory + at i .mandatory))
+        (next-is : next ≡ greatest (room + 1) (λ v. getD row (0 + v) 0) (top + worth)) where
+      -- the row before the window is looked at
+      row-widened : Widened (at i) (rowOf (jobsFrom at count (i + 1))) rank (top + worth) (λ v. getD row v 0)
+      row-widened = rw one (widened (at i) (rowOf (jobsFrom at count (i + 1))) top (b .reaches) (b .convex) ticks row (b .numbers) rank added (omega (arith, b .small, bounded .optional)))
+
+      -- and where it is cut
+      next-cut : next ≡ greatest (room + 1) (λ v. getD row v 0) (top + worth)
+      next-cut =
+          next-is
+          ∙ greatest-same (room + 1) (λ v. getD row (0 + v) 0) (λ v. getD row v 0) (top + worth)
+          (λ v l. let z : 0 + v ≡ v = omega arith in rw z)
+
+      -- beside the mandatory ticks of the job and those inside it
+      cut : Cut (at i) (jobsFrom at count (i + 1)) rank (top + worth) next (λ v. getD row v 0)
+      cut =
+          row-cut (at i) (jobsFrom at count (i + 1)) rank (top + worth) room next (λ v. getD row v 0) row-widened none-step
+          (omega (arith, bounded .deadline)) (omega (arith, room-is, mandatory-step)) next-cut
+
+      -- the rank of the job is written, and those of the jobs inside it stand beyond
+      decided-step : Decided at count i (set ranks i rank)
+      decided-step =
+          record {
+            decided = λ k l m v n.
+                elim (ℕ-discrete k i) [
+                  | yes s ↦
+                      rw (s, getD-set-same ranks i rank 0 (omega (arith, b .places)))
+                      (cut .keeps v (rw from-step at (rw s at n)))
+                  | no s ↦ rw (getD-set-other ranks i k rank 0 (omega arith)) (b .decided .decided k (omega arith) m v n)
+                ];
+          }
+
+      -- the row of one job more
+      pub built-step : Built at count i row (set ranks i rank) (mandatory + at i .mandatory) (all + worth) next
+      unfolding allWorth
+      built-step =
+          record {
+            within-is = omega (arith, b .within-is);
+            length-is = added .2 ∙ b .length-is;
+            numbers = λ v l. rw from-step (sym (cut .same v l));
+            reaches = rw from-step (cut .reaches);
+            convex = rw from-step (cut .convex);
+            small = rw from-step (omega (arith, cut .small, bounded .deadline));
+            places = length-set ranks i rank ∙ b .places;
+            decided = decided-step;
+            mandatory-is = rw from-step mandatory-step;
+            mandatory-most = omega (arith, b .mandatory-most, bounded .mandatory);
+            all-is = rw from-step (omega (arith, b .all-is));
+            all-most = omega (arith, b .all-most, countOne-most (at i));
+            top-most = omega (arith, cut .within, b .top-most, countOne-most (at i));
+          }
 
 -- no window of bounded jobs has as many ticks as huge
 pub outermost-small : (at : ℕ → Job) (count : ℕ) → ((k : ℕ) → k < count → Bounded (at k)) → outermostTicks (places at count) < hugeTicks
@@ -193,10 +167,10 @@ outermost-small at zero h = omega arith
 outermost-small at (suc count) h = omega (arith, h 0 (omega arith) .deadline)
 
 -- the most parts that the code finds are the best worth
-pub most-best : (jobs : List Job) (count : ℕ) (ticks : List ℕ) (all most : ℕ) → ((v : ℕ) → v ≤ count → getD ticks v 0 ≡ rowOf jobs v) → all ≤ count
-    → all ≡ allWorth countOne jobs → most ≡ greatest hugeTicks (λ v. getD ticks v 0) all → most ≡ bestWorth countOne hugeTicks jobs
-most-best jobs count ticks all most h l a m =
-    m ∙ (greatest-same (λ v. getD ticks v 0) (rowOf jobs) all (λ k n. h k (omega arith)) ∙ rw a)
+pub most-best : (jobs : List Job) (most : ℕ) → Reaches (rowOf jobs) most → most ≡ bestWorth countOne hugeTicks jobs
+most-best jobs most r =
+    let below = r .below most (omega arith) in
+    sym (greatest-only hugeTicks (rowOf jobs) (allWorth countOne jobs) most (row-below countOne hugeTicks jobs most below) below (λ v l m. omega (arith, r .beyond v l)))
 
 -- what a number of parts gives that is the best worth: the row is below huge there, the marks read back are the chosen list, which keeps as many
 -- parts and discards the others

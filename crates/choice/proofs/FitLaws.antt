@@ -71,6 +71,12 @@ unfolding keptTicks
 none-ticks [] = refl
 none-ticks (job ∷ jobs) = omega (arith, none-ticks jobs)
 
+-- nor any worth
+pub none-worth : (worth : Job → ℕ) (jobs : List Job) → keptWorth worth jobs (keepNone jobs) ≡ 0
+unfolding keptWorth
+none-worth worth [] = refl
+none-worth worth (job ∷ jobs) = omega (arith, none-worth worth jobs)
+
 -- if any list fits, the one that keeps nothing does
 pub none-fits : (jobs : List Job) (keeps : List Bool) → fits jobs keeps ≡ true → fits jobs (keepNone jobs) ≡ true
 unfolding worksFit worksOf keptTicks

@@ -5,7 +5,8 @@ pub mod BestLaws
 pub mod TieLaws
 pub mod ProgrammeLaws
 pub mod ChoiceLaws
-pub mod RewriteLaws
+pub mod ConvexLaws
+pub mod PartLaws
 pub mod BuildLaws
 pub mod BackLaws
 pub mod SampleLaws

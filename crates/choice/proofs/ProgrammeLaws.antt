@@ -6,7 +6,7 @@ use mathlib.Core.List.{List, [], _∷_}
 use mathlib.Core.Bool.{Bool, true, false}
 use native.Mathlib.Nat.{zero-add, add-sub-cancel-left}
 use native.Mathlib.Omega.{arith}
-use native.Mathlib.Decide.{decLt}
+use native.Mathlib.Decide.{decLt, ℕ-discrete}
 use lib.Dec.{leb, ltb, eqb}
 use borrow.Author.Tests.{leb-true, leb-false, ltb-true, ltb-false, eqb-true, eqb-false, le-leb, lt-leb, lt-ltb, le-ltb}
 use Rattle.base.proofs.TestLaws.{pick-true, pick-false, both-absurd, pick-cases, picked}
@@ -76,6 +76,40 @@ module _ (huge : ℕ) where
       (λ s.
       let d : v ≢ suc n = λ e. let u : r (suc n) < huge = rw e at t in omega (arith, ltb-false) in
       greatest-is r n v (omega arith) t)
+
+  -- above the greatest a row is not below huge
+  pub greatest-above : (r : ℕ → ℕ) (n v : ℕ) → greatest huge r n < v → v ≤ n → huge ≤ r v
+  unfolding greatest
+  greatest-above r zero v l m = absurd (omega arith)
+  greatest-above r (suc n) v l m =
+      picked (λ g. g < v) (ltb (r (suc n)) huge) l
+      (λ t g. absurd (omega arith))
+      (λ t g.
+      elim (ℕ-discrete v (suc n)) [
+        | yes e ↦ rw e (ltb-false (r (suc n)) huge t)
+        | no e ↦ greatest-above r n v g (omega arith)
+      ])
+
+  -- the greatest is in its range
+  pub greatest-most : (r : ℕ → ℕ) (n : ℕ) → greatest huge r n ≤ n
+  unfolding greatest
+  greatest-most r zero = omega arith
+  greatest-most r (suc n) = pick-cases (λ m. m ≤ suc n) (ltb (r (suc n)) huge) (λ e. omega arith) (λ e. omega (arith, greatest-most r n))
+
+  -- the place at which a row is below huge, and beyond which it is not, is the greatest
+  pub greatest-only : (r : ℕ → ℕ) (n most : ℕ) → most ≤ n → r most < huge → ((v : ℕ) → most < v → v ≤ n → huge ≤ r v) → greatest huge r n ≡ most
+  greatest-only r n most l b h =
+      let g = greatest-is r n most l b in
+      elim (decLt most (greatest huge r n)) [
+        | yes m ↦ absurd (omega (arith, h (greatest huge r n) m (greatest-most r n)))
+        | no m ↦ omega arith
+      ]
+
+  -- rows that agree up to n have the same greatest
+  pub greatest-same : (f g : ℕ → ℕ) (n : ℕ) → ((k : ℕ) → k ≤ n → f k ≡ g k) → greatest huge f n ≡ greatest huge g n
+  unfolding greatest
+  greatest-same f g zero h = refl
+  greatest-same f g (suc n) h = rw (h (suc n) (omega arith), greatest-same f g n (λ k l. h k (omega arith)))
 
 module _ (worth : Job → ℕ) (huge : ℕ) where
   -- at v the least ticks with the job kept, where its window is not yet looked at

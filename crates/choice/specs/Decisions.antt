@@ -1,37 +1,34 @@
--- For the proofs of choosing's and sequencing's code alone: what the code holds of the rows. The numbers of the outermost row so far, and of each row the decisions of its job, whether it is kept on the
--- way back. The decisions of all jobs stand in one list, row after row.
-use Prim.Native.Nat.{ℕ, _+_, _*_, _-_, _≤_, _<_, min}
+-- For the proofs of choosing's and sequencing's code alone: what the code holds of the rows. The numbers of the outermost row so far, up to the most parts
+-- that a list that fits keeps, and of each job its rank, which says where it is kept on the way back.
+use Prim.Native.Nat.{ℕ, _+_, _-_, _≤_, _<_}
 use mathlib.Core.Path.{_≡_}
 use mathlib.Core.List.{List}
-use mathlib.Core.Bool.{Bool, false}
-use lib.Dec.{leb}
+use mathlib.Core.Bool.{Bool, true}
+use lib.Dec.{leb, ltb}
 use lib.ListN.{length, getD}
 use Rattle.base.specs.Limits.{maxTasks}
+use Rattle.base.specs.Tests.{pick}
 use Rattle.base.specs.Places.{placesFrom, firstPlaces}
 use Rattle.schedule.specs.declared.Job.{Job}
 use Rattle.choice.specs.Choice.{countOne}
-use Rattle.schedule.specs.Jobs.{noJob, windowTicks}
-use Rattle.choice.specs.Programme.{allWorth, ifRoom, keeping, row, backtrack}
+use Rattle.schedule.specs.Jobs.{noJob, counts}
+use Rattle.choice.specs.Programme.{allWorth, keeping, row, backtrack}
 
 -- the places of a row: one for each number of optional parts that a list can keep, 0 among them
 abbrev pub rowPlaces : ℕ
 rowPlaces = maxTasks + 1
 
--- what stands in the code's rows where no list fits: more than any window has ticks
+-- what stands in a row where no list fits: more than any window has ticks
 abbrev pub hugeTicks : ℕ
 hugeTicks = 1_073_741_824
 
--- the row of some jobs, as the code has it
+-- the row of some jobs, where each part counts 1
 abbrev pub rowOf : List Job → ℕ → ℕ
 rowOf = row countOne hugeTicks
 
 -- the marks read back from the row of some jobs, for the worth v
 abbrev pub backOf : List Job → ℕ → List Bool
 backOf jobs v = backtrack countOne hugeTicks jobs v (rowOf jobs v)
-
--- the row of a job and the jobs inside it, from the row of those inside and the mandatory ticks of all
-unfoldable pub outerRow : Job → ℕ → (ℕ → ℕ) → ℕ → ℕ
-outerRow job mandatory inner v = ifRoom hugeTicks mandatory (windowTicks job) (min (keeping countOne hugeTicks job inner v) (inner v))
 
 -- a job is kept on the way back, at the worth v, where that takes no more ticks than to discard it
 unfoldable pub keepsOver : Job → (ℕ → ℕ) → ℕ → Bool
@@ -41,30 +38,52 @@ keepsOver job inner v = leb (keeping countOne hugeTicks job inner v) (inner v)
 abbrev pub jobsFrom : (ℕ → Job) → ℕ → ℕ → List Job
 jobsFrom at count i = placesFrom at i (count - i)
 
--- of the places counted from `first` on, those from `low` up to but not at `high` hold their items, and every other place what it held before
-pub record Rewritten {A : Type 0} (blank : A) (item : ℕ → A) (first low high : ℕ) (before after : List A) : Type 0 where
+-- a row goes up to `top` parts: no list that fits keeps more
+pub record Reaches (numbers : ℕ → ℕ) (top : ℕ) : Type 0 where
+  pub below : (v : ℕ) → v ≤ top → numbers v < hugeTicks
+  pub beyond : (v : ℕ) → top < v → numbers v ≡ hugeTicks
+
+-- up to `top` the numbers don't fall, and no step from one to the next is less than the step before it
+pub record Convex (numbers : ℕ → ℕ) (top : ℕ) : Type 0 where
+  pub first : 1 ≤ top → numbers 0 ≤ numbers 1
+  pub steps : (v : ℕ) → v + 2 ≤ top → numbers (v + 1) + numbers (v + 1) ≤ numbers v + numbers (v + 2)
+
+-- above `rank` a part was put into a row that goes up to `top`: each number is the one before it and the part, which is no more than the number was
+pub record PutAbove (optional top rank : ℕ) (before after : List ℕ) : Type 0 where
   pub same-length : length after ≡ length before
-  pub below : (k : ℕ) → k < first + low → getD after k blank ≡ getD before k blank
-  pub written : (v : ℕ) → low ≤ v → v < high → getD after (first + v) blank ≡ item v
-  pub beyond : (k : ℕ) → first + high ≤ k → getD after k blank ≡ getD before k blank
+  pub within : rank ≤ top
+  pub stays : (v : ℕ) → v ≤ rank → getD after v 0 ≡ getD before v 0
+  pub put : (v : ℕ) → rank ≤ v → v ≤ top → getD after (v + 1) 0 ≡ optional + getD before v 0
+  pub no-more : (v : ℕ) → rank ≤ v → v + 1 ≤ top → optional + getD before v 0 ≤ getD before (v + 1) 0
 
--- from job i on, the decisions of each job are those over the row of the jobs inside it, up to the parts of the job and of those
-pub record Decided (at : ℕ → Job) (count i : ℕ) (decisions : List Bool) : Type 0 where
-  pub decided : (k : ℕ) → i ≤ k → k < count → (v : ℕ) → v ≤ allWorth countOne (jobsFrom at count k)
-      → getD decisions (rowPlaces * k + v) false ≡ keepsOver (at k) (rowOf (jobsFrom at count (k + 1))) v
+-- and the rank is the greatest place at which it would be more, or 0
+abbrev pub PartAdded : ℕ → ℕ → ℕ → List ℕ → List ℕ → Type 0
+PartAdded optional top rank before after =
+    PutAbove optional top rank before after
+    × (0 < rank → getD before rank 0 < optional + getD before (rank - 1) 0)
 
--- the row of the jobs inside a job became, up to `most` parts, that of the job and those, whose mandatory ticks are `mandatory`
-abbrev pub RowMade : Job → ℕ → ℕ → List ℕ → List ℕ → Type 0
-RowMade job mandatory most before after = Rewritten 0 (outerRow job mandatory (λ k. getD before k 0)) 0 0 (most + 1) before after
+-- the optional part of a job was put into the row of the jobs inside it, with its rank; a part of no ticks changes nothing
+abbrev pub JobAdded : Job → ℕ → ℕ → List ℕ → List ℕ → Type 0
+JobAdded job top rank before after =
+    (job .optional ≡ 0 → after ≡ before)
+    × (0 < job .optional → PartAdded (job .optional) top rank before after)
+    × (length after ≡ length before)
 
--- the decisions of a job over the row of the jobs inside it were put, up to `most` parts, at the places from `at` on
-abbrev pub DecisionsPut : Job → ℕ → ℕ → List ℕ → List Bool → List Bool → Type 0
-DecisionsPut job most at row before after = Rewritten false (keepsOver job (λ k. getD row k 0)) at 0 (most + 1) before after
+-- a job of some rank is kept on the way back, at the worth v, where its part has no ticks or v is above the rank
+unfoldable pub keepsAbove : Job → ℕ → ℕ → Bool
+keepsAbove job rank v = pick (counts job) (ltb rank v) true
 
--- the row and the decisions of the first `count` of some jobs, and the number of their optional parts above 0 ticks
-abbrev pub RowsMade : List Job → ℕ → List ℕ → List Bool → ℕ → Type 0
-RowsMade jobs count row decisions parts =
-    ((v : ℕ) → v ≤ count → getD row v 0 ≡ rowOf (firstPlaces noJob jobs count) v)
-    × Decided (λ k. getD jobs k noJob) count 0 decisions
-    × (parts ≡ allWorth countOne (firstPlaces noJob jobs count))
-    × (parts ≤ count)
+-- from job i on, the rank of each job says where it is kept over the row of the jobs inside it, wherever a list of the job and those fits
+pub record Decided (at : ℕ → Job) (count i : ℕ) (ranks : List ℕ) : Type 0 where
+  pub decided : (k : ℕ) → i ≤ k → k < count → (v : ℕ) → rowOf (jobsFrom at count k) v < hugeTicks
+      → keepsAbove (at k) (getD ranks k 0) v ≡ keepsOver (at k) (rowOf (jobsFrom at count (k + 1))) v
+
+-- the ranks of the first `count` of some jobs, the number of their optional parts above 0 ticks, and the most of them that a list that fits keeps
+abbrev pub RowsMade : List Job → ℕ → List ℕ → ℕ → ℕ → Type 0
+RowsMade jobs count ranks all most =
+    Decided (λ k. getD jobs k noJob) count 0 ranks
+    × Reaches (rowOf (firstPlaces noJob jobs count)) most
+    × (all ≡ allWorth countOne (firstPlaces noJob jobs count))
+    × (most ≤ count)
+    × (all ≤ count)
+    × (length ranks ≡ maxTasks)

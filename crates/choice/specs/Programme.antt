@@ -1,5 +1,5 @@
--- For the proofs of choosing's and sequencing's code alone: the choice of optional parts by dynamic programming, as the code computes it: one row of numbers a job, from the innermost job outwards, and
--- the marks read back from the outermost inwards. Jobs stand outermost first.
+-- For the proofs of planner's, choosing's and sequencing's code alone: the choice of optional parts by dynamic programming: one row of numbers a job, from the innermost job outwards, and
+-- the marks read back from the outermost inwards. Jobs stand outermost first. What the code holds of it is said in Decisions.
 use Prim.Native.Nat.{ℕ, zero, suc, _+_, _-_, min}
 use mathlib.Core.List.{List, [], _∷_}
 use mathlib.Core.Bool.{Bool, true, false}

@@ -13,19 +13,14 @@ use Rattle.schedule.specs.declared.Job.{Job}
 use Rattle.base.specs.Members.{All}
 use Rattle.schedule.specs.Jobs.{workWith}
 use Rattle.choice.specs.Choice.{keepNone}
-use Rattle.sequence.specs.InOrder.{startsAt, endsAt, inTime, finish, fitsInOrder, firstLate, LateAt}
+use Rattle.sequence.specs.InOrder.{startsAt, inTime, finish, fitsInOrder, firstLate, LateAt}
 use Rattle.sequence.proofs.InOrderLaws.{late-known, time-known}
 
 -- the work of a job that is not kept is its mandatory ticks
 pub mandatory-work : (job : Job) → workWith job false ≡ job .mandatory
 mandatory-work job = omega arith
 
--- a job more: where the mandatory ticks of all end
-pub finish-mandatory : (job : Job) (jobs : List Job) → finish (job ∷ jobs) (keepNone (job ∷ jobs)) ≡ endsAt job (job .mandatory) (finish jobs (keepNone jobs))
-unfolding finish
-finish-mandatory job jobs = rw (mandatory-work job)
-
--- and when they fit
+-- a job more: when the mandatory ticks of all fit
 pub fits-mandatory : (job : Job) (jobs : List Job) → fitsInOrder (job ∷ jobs) (keepNone (job ∷ jobs))
     ≡ and (inTime job (job .mandatory) (finish jobs (keepNone jobs))) (fitsInOrder jobs (keepNone jobs))
 unfolding fitsInOrder

@@ -1,12 +1,15 @@
 pub mod InOrderLaws
 pub mod OrderRowLaws
+pub mod BesideLaws
 pub mod OrderChoiceLaws
 pub mod OrderNecessity
 pub mod OrderSufficiency
 pub mod RunListLaws
 pub mod LateLaws
 pub mod OrderBest
-pub mod KeptRowLaws
 pub mod WalkLaws
+pub mod RewriteLaws
+pub mod KeptRowLaws
+pub mod AllKeptLaws
 pub mod OrderSampleLaws
 pub mod ShiftLaws

@@ -9,7 +9,7 @@ use lib.ListN.{length}
 use Rattle.schedule.specs.declared.Job.{Job}
 use Rattle.base.specs.Members.{All}
 use Rattle.base.proofs.MemberLaws.{all-map}
-use Rattle.choice.specs.Choice.{keepNone, discardedWorth, keptWorth, ZeroKept, countOne}
+use Rattle.choice.specs.Choice.{keepNone, keptWorth, ZeroKept, countOne}
 use Rattle.choice.specs.Programme.{allWorth}
 use Rattle.choice.proofs.LexLaws.{LexAtMost}
 use Rattle.choice.proofs.BestLaws.{Best, best-of-all, best-one}

@@ -11,13 +11,13 @@ use lib.Dec.{leb}
 use borrow.Author.Tests.{leb-true, leb-false, le-leb, lt-leb, lt-ltb}
 use Rattle.base.proofs.TestLaws.{both-absurd, pick-true, pick-false, pick-cases, picked}
 use Rattle.schedule.specs.declared.Job.{Job}
-use Rattle.base.specs.Members.{All}
 use Rattle.schedule.specs.Jobs.{workWith}
 use Rattle.choice.specs.Choice.{discardMarks, keptWorth, ZeroKept}
-use Rattle.choice.specs.Programme.{allWorth}
+use Rattle.choice.specs.Programme.{mandatorySum, allWorth}
 use Rattle.choice.proofs.LexLaws.{LexAtMost}
+use Rattle.choice.proofs.ProgrammeLaws.{greatest-is}
 use Rattle.sequence.specs.InOrder.{startsAt, endsAt, inTime, finish, fitsInOrder}
-use Rattle.sequence.specs.OrderRows.{ending, boundBefore, keepingEnd, discardingEnd, earliest, readBack}
+use Rattle.sequence.specs.OrderRows.{ending, boundBefore, keepingEnd, discardingEnd, earliest, readBack, mostWorth}
 use Rattle.sequence.proofs.InOrderLaws.{work-cases, ends-none, ends-some, time-none, time-some, time-known, ends-after, ends-grows, time-less}
 use Rattle.sequence.proofs.InOrderLaws.{order-head, order-tail, order-cons}
 
@@ -97,15 +97,12 @@ module _ (huge : ℕ) where
   ending-least job w time later l e =
       rw (time-less job w w time later (omega arith) l e) (ends-grows job w w time later (omega arith) l)
 
-  -- no end is above huge, where the deadline and the time are not
-  ending-most : (job : Job) (w time : ℕ) → job .deadline ≤ huge → time ≤ huge → ending huge job w time ≤ huge
+  -- an end has time for the work that was before and for the work itself, or is huge
+  pub ending-mandatory : (job : Job) (w before time : ℕ) → min before huge ≤ time → min (before + w) huge ≤ ending huge job w time
   unfolding ending
-  ending-most job w time d l =
-      pick-cases (λ e. e ≤ huge) (inTime job w time)
-      (λ t.
-      work-cases w
-      (λ z. omega (arith, ends-none job w time z))
-      (λ p. omega (arith, ends-some job w time p, time-known job w time p t)))
+  ending-mandatory job w before time l =
+      pick-cases (λ e. min (before + w) huge ≤ e) (inTime job w time)
+      (λ t. work-cases w (λ z. omega (arith, ends-none job w time z)) (λ p. omega (arith, ends-some job w time p)))
       (λ t. omega arith)
 
 module _ (worth : Job → ℕ) (huge : ℕ) where
@@ -251,39 +248,57 @@ module _ (worth : Job → ℕ) (huge : ℕ) where
         back-zero free jobs v (boundBefore job w bound) (before-bound job w _ bound d l) (omega (arith, bound-less job w bound)),
       ))
 
-  -- no number of a row is above huge, where no deadline is
-  pub earliest-most : (jobs : List Job) (v : ℕ) → All (λ job. job .deadline ≤ huge) jobs → earliest worth huge jobs v ≤ huge
-  unfolding earliest discardingEnd
-  earliest-most [] zero a = omega arith
-  earliest-most [] (suc v) a = omega arith
-  earliest-most (job ∷ jobs) v a =
-      omega (arith, ending-most huge job (workWith job false) (earliest worth huge jobs v) (a .0) (earliest-most jobs v (a .1)))
-
   -- work that begins at huge or later does not end below huge
   ending-huge : (job : Job) (w time : ℕ) → huge ≤ time → huge ≤ ending huge job w time
   unfolding ending
   ending-huge job w time l =
       pick-cases (λ e. huge ≤ e) (inTime job w time) (λ t. omega (arith, ends-after job w time)) (λ t. omega arith)
 
-  -- beyond the worth of all optional parts a row is huge or above
-  pub earliest-beyond : (jobs : List Job) (v : ℕ) → allWorth worth jobs < v → huge ≤ earliest worth huge jobs v
-  unfolding earliest allWorth keepingEnd discardingEnd
-  earliest-beyond [] zero l = absurd (omega arith)
-  earliest-beyond [] (suc v) l = omega arith
-  earliest-beyond (job ∷ jobs) v l =
+  -- where the row of the jobs before is huge or above beyond some worth, the next is beyond that and the worth of the job
+  pub next-beyond : (job : Job) (jobs : List Job) (most : ℕ) → ((v : ℕ) → most < v → huge ≤ earliest worth huge jobs v)
+      → (v : ℕ) → worth job + most < v → huge ≤ earliest worth huge (job ∷ jobs) v
+  unfolding earliest keepingEnd discardingEnd
+  next-beyond job jobs most h v l =
       let k : huge ≤ keepingEnd worth huge job (earliest worth huge jobs) v =
       pick-cases (λ e. huge ≤ e) (leb (worth job) v)
-      (λ t. ending-huge job (workWith job true) _ (earliest-beyond jobs (v - worth job) (omega arith)))
+      (λ t. ending-huge job (workWith job true) _ (h (v - worth job) (omega arith)))
       (λ t. omega arith) in
-      omega (arith, ending-huge job (workWith job false) _ (earliest-beyond jobs v (omega arith)))
+      omega (arith, ending-huge job (workWith job false) _ (h v (omega arith)))
+
+  -- beyond the worth of all optional parts a row is huge or above
+  earliest-beyond : (jobs : List Job) (v : ℕ) → allWorth worth jobs < v → huge ≤ earliest worth huge jobs v
+  unfolding earliest allWorth
+  earliest-beyond [] zero l = absurd (omega arith)
+  earliest-beyond [] (suc v) l = omega arith
+  earliest-beyond (job ∷ jobs) v l = next-beyond job jobs (allWorth worth jobs) (earliest-beyond jobs) v l
 
   -- so where it is below huge, the worth is no more than that
-  pub earliest-below : (jobs : List Job) (v : ℕ) → earliest worth huge jobs v < huge → v ≤ allWorth worth jobs
+  earliest-below : (jobs : List Job) (v : ℕ) → earliest worth huge jobs v < huge → v ≤ allWorth worth jobs
   earliest-below jobs v l =
       elim (decLt (allWorth worth jobs) v) [
         | yes m ↦ absurd (omega (arith, earliest-beyond jobs v m))
         | no m ↦ omega arith
       ]
+
+  -- and it is huge or above beyond the most worth of a list that fits
+  pub most-beyond : (jobs : List Job) (v : ℕ) → mostWorth worth huge jobs < v → huge ≤ earliest worth huge jobs v
+  most-beyond jobs v l =
+      elim (decLt (earliest worth huge jobs v) huge) [
+        | yes m ↦ absurd (omega (arith, greatest-is huge (earliest worth huge jobs) (allWorth worth jobs) v (earliest-below jobs v m) m .1))
+        | no m ↦ omega arith
+      ]
+
+  -- a number of a row has time for all mandatory ticks, or is huge
+  pub earliest-mandatory : (jobs : List Job) (v : ℕ) → min (mandatorySum jobs) huge ≤ earliest worth huge jobs v
+  unfolding earliest mandatorySum keepingEnd discardingEnd
+  earliest-mandatory [] zero = omega arith
+  earliest-mandatory [] (suc v) = omega arith
+  earliest-mandatory (job ∷ jobs) v =
+      let k : min (job .mandatory + mandatorySum jobs) huge ≤ keepingEnd worth huge job (earliest worth huge jobs) v =
+      pick-cases (λ e. min (job .mandatory + mandatorySum jobs) huge ≤ e) (leb (worth job) v)
+      (λ t. omega (arith, ending-mandatory huge job (workWith job true) (mandatorySum jobs) _ (earliest-mandatory jobs (v - worth job))))
+      (λ t. omega arith) in
+      omega (arith, ending-mandatory huge job (workWith job false) (mandatorySum jobs) _ (earliest-mandatory jobs v))
 
   -- One step of the way back, where the row is within the bound. The job is kept: its worth is at most v, its work has room before the deadline
   -- and the bound, and the row of the jobs before is within their bound.

@@ -11,32 +11,42 @@ use Rattle.base.specs.Places.{placesFrom, places}
 use Rattle.base.specs.Lent.{writtenFront}
 use Rattle.base.specs.Members.{Distinct}
 use Rattle.base.proofs.PlaceLaws.{left-start, left-step, left-end}
-use Rattle.base.proofs.TestLaws.{cases}
+use Rattle.base.proofs.TestLaws.{cases, both-absurd}
 use Rattle.base.proofs.ListLaws.{map-append}
 use Rattle.base.proofs.MemberLaws.{all-places}
 use Rattle.schedule.specs.declared.Job.{Job}
 use Rattle.schedule.specs.declared.Run.{Run}
 use Rattle.schedule.specs.Jobs.{Bounded, workWith}
 use Rattle.schedule.specs.Runs.{startsOf, endsOf, tasksOf}
-use Rattle.choice.specs.Choice.{keepNone}
 use Rattle.choice.specs.Decisions.{hugeTicks, jobsFrom}
 use Rattle.placement.specs.Chains.{positions}
 use Rattle.placement.specs.HeldRuns.{FrontsWritten}
 use Rattle.sequence.specs.InOrder.{startsAt, endsAt, inTime, finish, fitsInOrder, runsInOrder, firstLate}
 use Rattle.sequence.specs.RunList.{runFrom, latestRuns, listedRuns}
 use Rattle.sequence.specs.OrderRows.{ending}
+use Rattle.sequence.specs.KeptRows.{sameMarks}
 use Rattle.sequence.proofs.InOrderLaws.{work-cases, ends-none, ends-some, time-known, late-known, order-head, order-tail, order-cons}
 use Rattle.sequence.proofs.RunListLaws.{run-none, run-some, runs-listed-are}
-use Rattle.sequence.proofs.LateLaws.{mandatory-work, finish-mandatory, none-late, late-only}
+use Rattle.sequence.proofs.LateLaws.{none-late, late-only}
 
--- The first late job.
+-- The walk of one mark throughout, and the first late job.
 
--- the mandatory ticks of the jobs from place i on fit, and end at `time`
-pub record Timely (at : ℕ → Job) (count i time : ℕ) : Type 0 where
+-- the work of the jobs from place i on, all parts kept or all discarded, fits and ends at `time`
+pub record Timely (at : ℕ → Job) (count : ℕ) (keep : Bool) (i time : ℕ) : Type 0 where
   pub within-is : i ≤ count
-  pub time-is : time ≡ finish (jobsFrom at count i) (keepNone (jobsFrom at count i))
+  pub time-is : time ≡ finish (jobsFrom at count i) (sameMarks keep (jobsFrom at count i))
   pub small : time ≤ lastTick
-  pub fit : fitsInOrder (jobsFrom at count i) (keepNone (jobsFrom at count i)) ≡ true
+  pub fit : fitsInOrder (jobsFrom at count i) (sameMarks keep (jobsFrom at count i)) ≡ true
+
+-- where a list of one mark throughout fits, it does so from every place on
+pub same-from : (at : ℕ → Job) (count : ℕ) (keep : Bool) (i : ℕ) → i ≤ count → fitsInOrder (places at count) (sameMarks keep (places at count)) ≡ true
+    → fitsInOrder (jobsFrom at count i) (sameMarks keep (jobsFrom at count i)) ≡ true
+same-from at count keep zero l e = rw (left-start at count) e
+same-from at count keep (suc i) l e =
+    let rest = same-from at count keep i (omega arith) e in
+    let m : i < count = l in
+    let s : i + 1 ≡ suc i = add-one i in
+    rw s at (order-tail (at i) (jobsFrom at count (i + 1)) keep (sameMarks keep (jobsFrom at count (i + 1))) (rw (left-step at count i m) at rest))
 
 -- the end of work that is in time, and of work that is not
 ending-timely : (job : Job) (w time : ℕ) → Bounded job → time ≤ lastTick → ending hugeTicks job w time < hugeTicks
@@ -81,9 +91,9 @@ places-whole : (at : ℕ → Job) (count : ℕ) (l : List Job) → placesFrom at
 unfolding places
 places-whole at count l e = e
 
-module _ (at : ℕ → Job) (count : ℕ) where
+module _ (at : ℕ → Job) (count : ℕ) (keep : Bool) where
   -- the walk begins
-  pub timely-start : Timely at count count 0
+  pub timely-start : Timely at count keep count 0
   unfolding finish fitsInOrder
   timely-start =
       record {
@@ -94,22 +104,42 @@ module _ (at : ℕ → Job) (count : ℕ) where
       }
 
   -- a job that is in time
-  pub timely-step : (i time : ℕ) → Timely at count (i + 1) time → Bounded (at i) → ending hugeTicks (at i) (at i .mandatory) time < hugeTicks
-      → Timely at count i (ending hugeTicks (at i) (at i .mandatory) time)
-  timely-step i time f b l =
-      let k = ending-timely (at i) (at i .mandatory) time b (f .small) l in
+  pub timely-step : (i time work : ℕ) → Timely at count keep (i + 1) time → Bounded (at i) → work ≡ workWith (at i) keep → ending hugeTicks (at i) work time < hugeTicks
+      → Timely at count keep i (ending hugeTicks (at i) work time)
+  unfolding finish
+  timely-step i time work f b w l =
+      let k = ending-timely (at i) work time b (f .small) l in
+      let rest = jobsFrom at count (i + 1) in
       let from = left-step at count i (omega (arith, f .within-is)) in
       record {
         within-is = omega (arith, f .within-is);
-        time-is = rw from (k .1 ∙ (ap (endsAt (at i) (at i .mandatory)) (f .time-is) ∙ sym (finish-mandatory (at i) (jobsFrom at count (i + 1)))));
+        time-is = rw from (k .1 ∙ rw (w, f .time-is));
         small = k .2;
-        fit = rw from
-            (order-cons (at i) (jobsFrom at count (i + 1)) false (keepNone (jobsFrom at count (i + 1)))
-            (rw (mandatory-work (at i), ← f .time-is) (k .0)) (f .fit));
+        fit = rw from (order-cons (at i) rest keep (sameMarks keep rest) (rw (← w, ← f .time-is) (k .0)) (f .fit));
       }
 
+  -- where a job is late, the list does not fit
+  pub timely-over : (i time work : ℕ) → Timely at count keep (i + 1) time → Bounded (at i) → work ≡ workWith (at i) keep → hugeTicks ≤ ending hugeTicks (at i) work time
+      → fitsInOrder (places at count) (sameMarks keep (places at count)) ≡ false
+  timely-over i time work f b w l =
+      let rest = jobsFrom at count (i + 1) in
+      let m : i < count = omega (arith, f .within-is) in
+      cases (fitsInOrder (places at count) (sameMarks keep (places at count)))
+      (λ e.
+      let t = order-head (at i) rest keep (sameMarks keep rest) (rw (left-step at count i m) at (same-from at count keep i (omega arith) e)) in
+      both-absurd (inTime (at i) work time) (rw (w, f .time-is) t) (ending-over (at i) work time b (f .small) l))
+      (λ e. e)
+
+  -- where no job is left, it fits
+  pub timely-fits : (i time : ℕ) → Timely at count keep i time → i ≤ 0 → fitsInOrder (places at count) (sameMarks keep (places at count)) ≡ true
+  timely-fits i time f l =
+      let e : i ≡ 0 = omega arith in
+      rw (e, left-start at count) at (f .fit)
+
+-- The first job whose mandatory ticks are late.
+module _ (at : ℕ → Job) (count : ℕ) where
   -- a job that is late
-  pub timely-late : (i time : ℕ) → Timely at count (i + 1) time → ((k : ℕ) → k < count → at k .position < count) → Bounded (at i)
+  pub timely-late : (i time : ℕ) → Timely at count false (i + 1) time → ((k : ℕ) → k < count → at k .position < count) → Bounded (at i)
       → hugeTicks ≤ ending hugeTicks (at i) (at i .mandatory) time → firstLate count (places at count) ≡ at i .position
   timely-late i time f h b l =
       let from = left-step at count i (omega (arith, f .within-is)) in
@@ -130,11 +160,9 @@ module _ (at : ℕ → Job) (count : ℕ) where
       })
 
   -- no job is left
-  pub timely-end : (i time : ℕ) → Timely at count i time → i ≤ 0 → ((k : ℕ) → k < count → at k .position < count) → firstLate count (places at count) ≡ count
+  pub timely-end : (i time : ℕ) → Timely at count false i time → i ≤ 0 → ((k : ℕ) → k < count → at k .position < count) → firstLate count (places at count) ≡ count
   timely-end i time f l h =
-      let e : i ≡ 0 = omega arith in
-      let fit = rw (e, left-start at count) at (f .fit) in
-      none-late count (places at count) (all-places (λ job. job .position < count) at count .1 h) .1 fit
+      none-late count (places at count) (all-places (λ job. job .position < count) at count .1 h) .1 (timely-fits at count false i time f l)
 
 -- The runs.
 

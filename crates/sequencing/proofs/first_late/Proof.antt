@@ -1,15 +1,17 @@
 -- `sequencing::first_late` meets its contract: the walk goes in similar order, from the last place downwards.
 use Prim.Native.Nat.{_+_, _-_}
 use mathlib.Core.Path.{_≡_, sym}
+use mathlib.Core.Bool.{false}
 use native.Mathlib.Omega.{arith}
 use lib.ListN.{getD}
 use Rattle.schedule.specs.Jobs.{noJob, Bounded}
+use Rattle.sequence.proofs.LateLaws.{mandatory-work}
 use Rattle.sequence.proofs.WalkLaws.{Timely, timely-start, timely-step, timely-late, timely-end}
 use Rattle.sequencing.proofs.first_late.Statement.{statement}
 use Rattle.sequencing.proofs.first_late.Tie as tie
 
 abbrev Inv-loop : tie.InvT-loop
-Inv-loop count jobs time₀ i₀ time i = Timely (λ k. getD jobs k noJob) count i time
+Inv-loop count jobs time₀ i₀ time i = Timely (λ k. getD jobs k noJob) count false i time
 
 abbrev μ-loop : tie.MeasureT-loop
 μ-loop count jobs time₀ i₀ time i = i
@@ -19,13 +21,13 @@ bounded : (c : tie.In-loop Inv-loop μ-loop) → Bounded (getD (c .before .befor
 bounded c = c .before .before .pre .1 .0 (c .before .loop .i - 1) (omega (arith, c .before .loop .inv .within-is))
 
 -- and the jobs before it are timely
-timely : (c : tie.In-loop Inv-loop μ-loop) → Timely (λ k. getD (c .before .before .args .t1) k noJob) (c .before .before .args .count) (c .before .loop .i - 1 + 1) (c .before .loop .time)
+timely : (c : tie.In-loop Inv-loop μ-loop) → Timely (λ k. getD (c .before .before .args .t1) k noJob) (c .before .before .args .count) false (c .before .loop .i - 1 + 1) (c .before .loop .time)
 timely c =
     let next : c .before .loop .i ≡ c .before .loop .i - 1 + 1 = omega arith in
     rw next at (c .before .loop .inv)
 
 loop-holds : tie.Need-loop-holds Inv-loop μ-loop
-loop-holds c = timely-start _ _
+loop-holds c = timely-start _ _ _
 
 sub-i : tie.Need-sub-i Inv-loop μ-loop
 sub-i c = omega arith
@@ -59,7 +61,7 @@ loop-again c =
     let called = c .before in
     let inside = called .before .before in
     rw (called .ending-at .ensures)
-    (timely-step _ _ _ _ (timely inside) (bounded inside) (omega (arith, called .ending-at .ensures, c .if1 .left)))
+    (timely-step _ _ _ _ _ _ (timely inside) (bounded inside) (sym (mandatory-work (getD (inside .before .before .args .t1) (inside .before .loop .i - 1) noJob))) (omega (arith, called .ending-at .ensures, c .if1 .left)))
 
 returns-2 : tie.Need-returns-2 Inv-loop μ-loop
 returns-2 c = sym (timely-end _ _ _ _ (c .before .loop .inv) (c .loop-test .left) (c .before .before .pre .1 .1))

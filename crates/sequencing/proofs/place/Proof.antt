@@ -33,7 +33,7 @@ laid c =
     rw next at (c .before .loop .inv)
 
 -- where there is work, it ends by the last tick
-room : (c : tie.After-starts-at Inv-loop μ-loop) → c .starts-at .result + c .before .before .work-with .result ≤ lastTick
+room : (c : tie.After-raised Inv-loop μ-loop) → c .raised .result + c .before .before .work-with .result ≤ lastTick
 room c =
     let work = c .before .before in
     let inside = work .before .before in
@@ -41,7 +41,7 @@ room c =
     let w = work .work-with .ensures in
     omega (
       arith,
-      c .starts-at .ensures,
+      c .raised .ensures,
       laid-room _ _ _ _ _ _ _ _ _ _ _ _ (laid inside) (pre .1 .1 .1 .0) (bounded inside) (omega (arith, c .before .if1 .taken)),
     )
 
@@ -63,14 +63,14 @@ array-read-work-with c = omega (arith, c .before .before .loop .inv .within-is, 
 work-with-requires : tie.Need-work-with-requires Inv-loop μ-loop
 work-with-requires c κs = bounded (c .before)
 
-starts-at-requires : tie.Need-starts-at-requires Inv-loop μ-loop
-starts-at-requires c κs = search needs
+raised-requires : tie.Need-raised-requires Inv-loop μ-loop
+raised-requires c κs = search needs
 
 add-time : tie.Need-add-time Inv-loop μ-loop
 add-time c = omega (arith, room c)
 
 -- there is room for one run more
-places : (c : tie.After-starts-at Inv-loop μ-loop)
+places : (c : tie.After-raised Inv-loop μ-loop)
     → (c .before .before .before .before .before .loop .runs < length (c .before .before .before .before .before .loop .starts))
     × (c .before .before .before .before .before .loop .runs < length (c .before .before .before .before .before .loop .ends))
     × (c .before .before .before .before .before .loop .runs < length (c .before .before .before .before .before .loop .tasks))
@@ -119,7 +119,7 @@ loop-again c =
     let p = places c in
     let w = work .work-with .ensures in
     let taken = c .before .if1 .taken in
-    laid-run _ _ _ _ _ _ _ _ _ _ _ _ (laid inside) _ _ (omega arith) (c .starts-at .ensures) (omega arith) (room c)
+    laid-run _ _ _ _ _ _ _ _ _ _ _ _ (laid inside) _ _ (omega arith) (c .raised .ensures) (omega arith) (room c)
     (omega (arith, p .0, f .starts-length)) (omega (arith, p .1, f .ends-length)) (omega (arith, p .2, f .tasks-length))
 
 loop-less-2 : tie.Need-loop-less-2 Inv-loop μ-loop
@@ -154,7 +154,7 @@ place-spec =
     array-copy-out-job
     array-read-work-with
     work-with-requires
-    starts-at-requires
+    raised-requires
     add-time
     mul-starts
     slice-write-starts

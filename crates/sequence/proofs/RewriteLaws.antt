@@ -1,4 +1,4 @@
--- Laws of a list that is written over place by place, from the last of some places downwards.
+-- Laws of a list that is written over place by place, upwards or downwards.
 use Prim.Native.Nat.{ℕ, _+_, _-_, _≤_, _<_}
 use mathlib.Core.Path.{_≡_, refl, _∙_}
 use mathlib.Core.List.{List}
@@ -6,7 +6,7 @@ use native.Mathlib.Omega.{arith}
 use native.Mathlib.Decide.{ℕ-discrete}
 use lib.ListN.{length, set, length-set}
 use lib.Seq.{getD-set-same, getD-set-other}
-use Rattle.choice.specs.Decisions.{Rewritten}
+use Rattle.sequence.specs.KeptRows.{Rewritten}
 
 module _ {A : Type 0} (blank : A) (item : ℕ → A) (first : ℕ) (old : List A) where
   -- no place is written yet
@@ -27,4 +27,19 @@ module _ {A : Type 0} (blank : A) (item : ℕ → A) (first : ℕ) (old : List A
               | no s ↦ rw (getD-set-other list place (first + v) x blank (omega arith)) (r .written v (omega arith) g)
             ];
         beyond = λ k h. rw (getD-set-other list place k x blank (omega arith)) (r .beyond k h);
+      }
+
+  -- A list that is written over place by place upwards: one place more is written.
+  pub written-next : (low high : ℕ) (list : List A) (place : ℕ) (x : A) → low ≤ high → place ≡ first + high
+      → place < length list → x ≡ item high → Rewritten blank item first low high old list → Rewritten blank item first low (high + 1) old (set list place x)
+  written-next low high list place x n e m is r =
+      record {
+        same-length = length-set list place x ∙ r .same-length;
+        below = λ k h. rw (getD-set-other list place k x blank (omega arith)) (r .below k h);
+        written = λ v h g.
+            elim (ℕ-discrete v high) [
+              | yes s ↦ rw (s, ← e, getD-set-same list place x blank m) is
+              | no s ↦ rw (getD-set-other list place (first + v) x blank (omega arith)) (r .written v h (omega arith))
+            ];
+        beyond = λ k h. rw (getD-set-other list place k x blank (omega arith)) (r .beyond k (omega arith));
       }
