@@ -5,4 +5,6 @@ pub mod TableRunnings
 pub mod NestLaws
 pub mod SimilarLaws
 pub mod KeyLaws
+pub mod RankLaws
+pub mod NeighbourLaws
 pub mod LaunchLaws

@@ -52,7 +52,7 @@ inside-frames a b e fa fb l =
     (λ f. sym (or-second (contains a b) (contains b a) f) ∙ e)
 
 -- the window at position a lies inside that at b
-abbrev inside : Table → ℕ → ℕ → Bool
+abbrev pub inside : Table → ℕ → ℕ → Bool
 inside t a b = contains (taskAt t b) (taskAt t a)
 
 -- What stands before in nest order has no more frames.
@@ -61,17 +61,17 @@ unfolding nestBefore LexAtMost
 nest-frames t a b e = less→atMost (nestKey t a) (nestKey t b) e .0
 
 -- in a nested table it lies inside
-nest-inside : (t : Table) → Legal t → isNested t ≡ true → (a b : ℕ) → a < t .count → b < t .count → nestBefore t a b ≡ true → inside t a b ≡ true
+nest-inside : (t : Table) → ((k : ℕ) → k < t .count → reversed (taskAt t k) ≡ false) → isNested t ≡ true → (a b : ℕ) → a < t .count → b < t .count → nestBefore t a b ≡ true → inside t a b ≡ true
 unfolding isNested
-nest-inside t l e a b la lb before =
+nest-inside t ahead e a b la lb before =
     let near = any-pairs nested nested-sym (taskAt t) (t .count) e a b la lb (λ same.
     let self : nestBefore t b b ≡ true = rw same at before in
     both-absurd (nestBefore t b b) self (nest-strict t .once b b self)) in
-    inside-frames (taskAt t a) (taskAt t b) near (legal-forward t l a la) (legal-forward t l b lb) (nest-frames t a b before)
+    inside-frames (taskAt t a) (taskAt t b) near (ahead a la) (ahead b lb) (nest-frames t a b before)
 
--- outermost first, each window of a nested table lies inside those before it
-nest-falls : (t : Table) → Legal t → isNested t ≡ true → Sorted (inside t) (lastFirst (nestBefore t) (t .count))
-nest-falls t l e = falls-by (nestBefore t) (inside t) (t .count) (nest-strict t) (nest-inside t l e)
+-- Outermost first, each window of a nested table lies inside those before it.
+pub nest-falls : (t : Table) → ((k : ℕ) → k < t .count → reversed (taskAt t k) ≡ false) → isNested t ≡ true → Sorted (inside t) (lastFirst (nestBefore t) (t .count))
+nest-falls t ahead e = falls-by (nestBefore t) (inside t) (t .count) (nest-strict t) (nest-inside t ahead e)
 
 -- Chains of jobs.
 
@@ -97,6 +97,6 @@ pub nest-chain : (launch : ℕ) (t : Table) → Legal t → isNested t ≡ true 
 unfolding jobsLastFirst
 nest-chain launch t l e =
     record {
-      nested = jobs-nested launch t (orderLastFirst t) (subst⁻¹ (Sorted (inside t)) (order-nested t e) (nest-falls t l e));
+      nested = jobs-nested launch t (orderLastFirst t) (subst⁻¹ (Sorted (inside t)) (order-nested t e) (nest-falls t (legal-forward t l) e));
       distinct = jobs-distinct launch t;
     }

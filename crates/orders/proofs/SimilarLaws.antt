@@ -21,6 +21,7 @@ use Rattle.table.proofs.KindLaws.{similar-sym, any-pairs, legal-similar}
 use Rattle.schedule.specs.Jobs.{jobOf, jobAt}
 use Rattle.choice.proofs.LexLaws.{LexAtMost, less→atMost}
 use Rattle.sequence.specs.Similar.{NotAfter, Ordered, Similar}
+use Rattle.orders.specs.Sorting.{lastFirst}
 use Rattle.orders.specs.SimilarOrder.{similarKey, similarBefore}
 use Rattle.orders.specs.KindOrder.{orderLastFirst, jobsLastFirst}
 use Rattle.orders.proofs.SortLaws.{Sorted, falls-by}
@@ -48,7 +49,7 @@ similar-frames t s a b la lb before =
     )
 
 -- the task at position a has no later release and no later deadline than that at b
-abbrev notAfter : Table → ℕ → ℕ → Bool
+abbrev pub notAfter : Table → ℕ → ℕ → Bool
 notAfter t a b = and (leb (taskAt t a .release) (taskAt t b .release)) (leb (taskAt t a .deadline) (taskAt t b .deadline))
 
 -- what stands before another in similar order is so
@@ -58,6 +59,10 @@ similar-notAfter t s a b la lb before =
     and-true (leb (taskAt t a .release) (taskAt t b .release)) (leb (taskAt t a .deadline) (taskAt t b .deadline))
     (le-leb (taskAt t a .release) (taskAt t b .release) (f .0))
     (le-leb (taskAt t a .deadline) (taskAt t b .deadline) (f .1))
+
+-- Last first, each task of a similar table has no later release and no later deadline than those before it.
+pub similar-falls : (t : Table) → isSimilar t ≡ true → Sorted (notAfter t) (lastFirst (similarBefore t) (t .count))
+similar-falls t s = falls-by (similarBefore t) (notAfter t) (t .count) (similar-strict t) (similar-notAfter t s)
 
 -- so it is in ticks
 notAfter-ticks : (launch : ℕ) (t : Table) (a b : ℕ) → notAfter t a b ≡ true → NotAfter (jobAt launch t b) (jobAt launch t a)
@@ -83,7 +88,6 @@ unfolding jobsLastFirst
 similar-jobs launch t l e =
     record {
       ordered = jobs-ordered launch t (orderLastFirst t)
-          (subst⁻¹ (Sorted (notAfter t)) (order-similar t e)
-          (falls-by (similarBefore t) (notAfter t) (t .count) (similar-strict t) (similar-notAfter t (legal-similar t l e))));
+          (subst⁻¹ (Sorted (notAfter t)) (order-similar t e) (similar-falls t (legal-similar t l e)));
       distinct = jobs-distinct launch t;
     }

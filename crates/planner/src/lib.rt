@@ -7,6 +7,7 @@ ghost use Prim.Native.Nat.{ℕ, _≤_, _<_};
 ghost use lib.ListN.{length, getD, drop};
 ghost use Rattle.base.specs.Limits.{maxTasks};
 ghost use Rattle.base.specs.Places.{places, firstPlaces};
+ghost use Rattle.table.specs.Answers.{numberOf, placeOf};
 ghost use Rattle.table.specs.Kinds.{isNested};
 ghost use Rattle.table.specs.Reading.{tableIn, reading};
 ghost use Rattle.table.specs.Writing.{Legal};
@@ -14,6 +15,7 @@ ghost use Rattle.schedule.specs.Jobs.{noJob, Bounded};
 ghost use Rattle.base.specs.Members.{Any, Distinct};
 ghost use Rattle.placement.specs.Chains.{positions};
 ghost use Rattle.choice.specs.Choice.{keepNone};
+ghost use Rattle.orders.specs.Keys.{KeysHeld};
 ghost use Rattle.plans.specs.Planning.{exceedingAfter, fitsBy, tooShort, markAt, planDeclined, planMade, madeBy, replyBy, writtenBy, afterBy};
 ghost use Rattle.plans.specs.Planning.{lent, shortLists, planTable, planReply, listsAfter};
 ghost use Rattle.plans.specs.Launch.{EarlierAtZero, LaterByLaunch};
@@ -205,10 +207,11 @@ fn plan_similar(
     put_similar(jobs, count, marks, starts, ends, tasks)
 }
 
-// Planning the table of an accepted file at a launch tick, by its kind: 14 first.
+// Planning the table of an accepted file at a launch tick, by its kind and the keys of its order: 14 first.
 fn plan_table(
     table: Table,
     nested: bool,
+    keys: [u32; MAX_TASKS],
     launch: u32,
     marks: &mut [u8],
     starts: &mut [u32],
@@ -217,6 +220,7 @@ fn plan_table(
 ) -> Planned
     requires { ⌜ Legal table ⌝ }
     requires { ⌜ nested ≡ isNested table ⌝ }
+    requires { ⌜ KeysHeld (isNested table) table (table .count) keys ⌝ }
     ensures { λ r. ⌜ r ≡ planTable launch table (lent (now (marks .entry)) (now (starts .entry)) (now (ends .entry)) (now (tasks .entry))) ⌝ }
     ensures { λ r. ⌜ lent (now (marks .exit)) (now (starts .exit)) (now (ends .exit)) (now (tasks .exit))
         ≡ listsAfter launch table r (lent (now (marks .entry)) (now (starts .entry)) (now (ends .entry)) (now (tasks .entry))) ⌝ }
@@ -225,13 +229,10 @@ fn plan_table(
         return declined(14, 0);
     }
     let count = table.count as usize;
+    let jobs = ordering::jobs_last_first(table, launch, keys);
     if nested {
-        let keys = ordering::keys_by(table, true);
-        let jobs = ordering::jobs_last_first(table, launch, keys);
         return plan_nested(jobs, count, marks, starts, ends, tasks);
     }
-    let keys = ordering::keys_by(table, false);
-    let jobs = ordering::jobs_last_first(table, launch, keys);
     plan_similar(jobs, count, marks, starts, ends, tasks)
 }
 
@@ -239,6 +240,16 @@ fn plan_table(
 pub struct Counted {
     pub count: u32,
     pub reply: Planned,
+}
+
+// The reply where reading refuses.
+fn refused(answer: Answer) -> Counted
+    ensures { λ r. ⌜ (r .count ≡ 0) × (r .reply ≡ planDeclined (numberOf answer) (placeOf answer)) ⌝ }
+{
+    Counted {
+        count: 0,
+        reply: declined(answer.number(), answer.place()),
+    }
 }
 
 // Planning a file at a launch tick, with its task count, for callers that print the plan.
@@ -256,16 +267,22 @@ pub fn plan_counted(
     ensures { λ r. ⌜ lent (now (marks .exit)) (now (starts .exit)) (now (ends .exit)) (now (tasks .exit))
         ≡ listsAfter launch (tableIn (now (file .entry))) (r .reply) (lent (now (marks .entry)) (now (starts .entry)) (now (ends .entry)) (now (tasks .entry))) ⌝ }
 {
-    let read = reading::read(file);
+    let read = reading::read_forward(file);
     let table = read.table;
-    let count = table.count;
     let answer = read.answer;
     let Answer::Accepted = answer else {
-        let reply = declined(answer.number(), answer.place());
-        return Counted { count, reply };
+        return refused(answer);
     };
-    let reply = plan_table(table, read.nested, launch, marks, starts, ends, tasks);
-    Counted { count, reply }
+    let kind = ordering::keys_of_kind(table);
+    if !kind.served {
+        return refused(table.window_answer());
+    }
+    let keys = kind.keys;
+    let reply = plan_table(table, kind.nested, keys, launch, marks, starts, ends, tasks);
+    Counted {
+        count: table.count,
+        reply,
+    }
 }
 
 // Planning: any bytes and any launch tick get the reply of documents 01 and 02. Where nothing is refused, the marks by position and the runs by start

@@ -84,6 +84,11 @@ head-few s e =
     let facts = head-known s e in
     (count-known (countIn s) (facts .counted) .1, omega arith)
 
+-- so it has the bits of a header
+pub head-bits : (s : List ℕ) → headAnswer s ≡ Accepted → headerWidth ≤ 8 * length s
+unfolding taskStart
+head-bits s e = omega (arith, head-few s e .1)
+
 -- a header that is refused gives the answer
 pub head-refused : (s : List ℕ) → isAccepted (headAnswer s) ≡ false → headAnswer s ≡ readAnswer s
 unfolding readAnswer
@@ -108,11 +113,6 @@ kind-accepted s e = rw e
 pub read-head : (s : List ℕ) → readAnswer s ≡ Accepted → headAnswer s ≡ Accepted
 unfolding readAnswer
 read-head s e = firstRefusal-known (headAnswer s) (windowAnswer (tableIn s)) e .0
-
--- so it has the bits of a header
-pub read-bits : (s : List ℕ) → readAnswer s ≡ Accepted → headerWidth ≤ 8 * length s
-unfolding taskStart
-read-bits s e = omega (arith, head-few s (read-head s e) .1)
 
 -- the table of the reply, on a refusal and on none
 pub table-refused : (s : List ℕ) → isAccepted (readAnswer s) ≡ false → noTable ≡ reading s .table

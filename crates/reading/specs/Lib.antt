@@ -1,2 +1,3 @@
 pub mod Headers
 pub mod Frames
+pub mod Forward

@@ -8,7 +8,7 @@ use Rattle.table.specs.declared.Answer.the-variants.{Accepted}
 use Rattle.table.specs.Answers.{numberOf, placeOf, isAccepted}
 use Rattle.table.specs.Reading.{readAnswer, reading}
 use Rattle.table.proofs.AnswerLaws.{told-refused}
-use Rattle.reading.proofs.ReadLaws.{read-bits, table-refused, table-accepted}
+use Rattle.reading.proofs.ReadLaws.{head-bits, read-head, table-refused, table-accepted}
 use Rattle.exports.specs.declared.TableRead.{TableRead}
 use Rattle.exports.specs.FileRead.{tableRead}
 use Rattle.exports.proofs.planner_read.Statement.{statement}
@@ -46,10 +46,10 @@ accepted : (c : tie.After-enum-told) → readAnswer (c .before .before .before .
 accepted c = sym (c .before .before .before .before .answer .ensures) ∙ c .enum-told .given .1
 
 take-header-requires : tie.Need-take-header-requires
-take-header-requires c κs = read-bits _ (accepted c)
+take-header-requires c κs = head-bits _ (read-head _ (accepted c))
 
 table-in-requires : tie.Need-table-in-requires
-table-in-requires c κs = (c .take-header .ensures, accepted (c .before))
+table-in-requires c κs = (c .take-header .ensures, read-head _ (accepted (c .before)))
 
 returns-2 : tie.Need-returns-2
 returns-2 c =

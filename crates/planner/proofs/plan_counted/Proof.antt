@@ -1,74 +1,123 @@
--- `planner::plan_counted` meets its contract: reading's refusals end the call and touch no list; what the table gets is what the file gets.
-use mathlib.Core.Path.{_≡_, sym, ap, ap₂, subst⁻¹, _∙_}
+-- `planner::plan_counted` meets its contract: reading's refusals, of which 7 is found from the order of the table, end the call and touch no list; what the
+-- table gets is what the file gets.
+use Prim.Native.Nat.{ℕ}
+use mathlib.Core.Path.{_≡_, sym, ap, subst⁻¹, _∙_}
+use mathlib.Core.List.{List}
+use mathlib.Core.Bool.{false}
 use borrow.Author.Needs.{needs}
+use borrow.Author.Tests.{not-true, not-false}
 use lib.Dec.{eqb}
+use Rattle.base.specs.Tests.{or}
 use Rattle.table.specs.declared.Table.{Table}
-use Rattle.table.specs.declared.Reading.{Reading}
+use Rattle.table.specs.declared.Answer.{Answer}
 use Rattle.table.specs.declared.Answer.the-variants.{Accepted}
+use Rattle.table.specs.Tables.{noTable}
 use Rattle.table.specs.Answers.{numberOf, placeOf, isAccepted}
-use Rattle.table.specs.Kinds.{isNested}
+use Rattle.table.specs.Kinds.{isNested, isSimilar, windowAnswer}
 use Rattle.table.specs.Reading.{tableIn, readAnswer, reading}
 use Rattle.table.specs.Writing.{Legal}
 use Rattle.table.proofs.AnswerLaws.{told-refused, refused-number}
-use Rattle.table.proofs.RoundTrip.{read-legal, read-answer, read-is, read-nested}
+use Rattle.table.proofs.RoundTrip.{read-legal}
+use Rattle.reading.specs.Forward.{forwardRead}
+use Rattle.reading.proofs.ReadLaws.{table-refused, table-accepted}
+use Rattle.reading.proofs.ForwardLaws.{forward-refused, forward-table, forward-served, forward-neither}
+use Rattle.orders.specs.Keys.{Forward}
 use Rattle.plans.specs.declared.Planned.{Planned}
-use Rattle.plans.specs.Planning.{LentLists, planDeclined, planTable, listsAfter}
+use Rattle.plans.specs.Planning.{LentLists, planDeclined, planTable, planReply, listsAfter}
 use Rattle.plans.proofs.ReplyLaws.{table-kept, file-refused, file-accepted}
+use Rattle.planner.specs.declared.Counted.{Counted}
 use Rattle.planner.proofs.plan_counted.Statement.{statement}
 use Rattle.planner.proofs.plan_counted.Tie as tie
 
--- the count is that of the table that was read
-count-is : (c : tie.After-read) → c .read .result .table .count ≡ reading (c .before .before .before .before .before .before .args .file .now) .table .count
-count-is c = ap (λ (r : Reading). r .table .count) (c .read .ensures)
+-- past the `let .. else` nothing but 7 is left to refuse, and the table read is that of the file
+forward : (c : tie.After-enum-told) → forwardRead (c .before .before .before .before .before .before .before .before .before .args .file .now) ≡ Accepted
+forward c = sym (c .before .before .before .read-forward .ensures .0) ∙ c .enum-told .given .1
 
--- past the `let .. else` the file is accepted, and the table read is that of the file
-accepted : (c : tie.After-enum-told) → readAnswer (c .before .before .before .before .before .before .before .before .before .args .file .now) ≡ Accepted
-accepted c = sym (read-answer _ _ (c .before .before .before .read .ensures)) ∙ c .enum-told .given .1
+table-is : (c : tie.After-enum-told)
+    → c .before .before .before .read-forward .result .table ≡ tableIn (c .before .before .before .before .before .before .before .before .before .args .file .now)
+table-is c = c .before .before .before .read-forward .ensures .1 (c .enum-told .given .1)
 
-table-is : (c : tie.After-enum-told) → c .before .before .before .read .result .table ≡ tableIn (c .before .before .before .before .before .before .before .before .before .args .file .now)
-table-is c = read-is _ _ (c .before .before .before .read .ensures) (accepted c)
+-- its tasks have keys
+has-keys : (c : tie.After-enum-told) → Forward (c .before .before .before .read-forward .result .table)
+has-keys c =
+    let known = forward-table _ (forward c) in
+    subst⁻¹ Forward (table-is c) (record { few = known .few; ahead = known .ahead; within-is = known .named })
+
+-- it is of either kind where the call says so
+kind-is : (c : tie.After-keys-of-kind)
+    → c .keys-of-kind .result .served
+    ≡ or (isNested (tableIn (c .before .before .before .before .before .before .before .before .before .before .args .file .now)))
+    (isSimilar (tableIn (c .before .before .before .before .before .before .before .before .before .before .args .file .now)))
+kind-is c = c .keys-of-kind .ensures .served-is ∙ ap (λ (t : Table). or (isNested t) (isSimilar t)) (table-is (c .before))
+
+-- past the refusal of 7 the file is accepted
+accepted : (c : tie.Else1) → readAnswer (c .before .before .before .before .before .before .before .before .before .before .before .before .args .file .now) ≡ Accepted
+accepted c =
+    let kind = c .before .before in
+    forward-served _ (forward (kind .before)) (sym (kind-is kind) ∙ not-false _ (c .if1 .left))
 
 -- the lists that are lent
 abbrev lent : (c : tie.Start) → LentLists
 lent c = record { marks = c .args .marks .now; starts = c .args .starts .now; ends = c .args .ends .now; tasks = c .args .tasks .now }
 
-read-requires : tie.Need-read-requires
-read-requires c κs = search needs
+-- what a refusal of reading gives
+refusal : (launch : ℕ) (file : List ℕ) (lists : LentLists) (answer : Answer) (r : Counted) → answer ≡ readAnswer file → isAccepted (readAnswer file) ≡ false
+    → (r .count ≡ 0) × (r .reply ≡ planDeclined (numberOf answer) (placeOf answer))
+    → (r .count ≡ reading file .table .count) × ((r .reply ≡ planReply launch file lists) × (lists ≡ listsAfter launch (tableIn file) (r .reply) lists))
+unfolding noTable
+refusal launch file lists answer r same bad is =
+    let says = is .1 ∙ ap (λ (a : Answer). planDeclined (numberOf a) (placeOf a)) same in (
+      is .0 ∙ ap (λ (t : Table). t .count) (table-refused file bad),
+      (
+        says ∙ sym (file-refused launch file lists bad),
+        table-kept launch (tableIn file) (r .reply) lists (ap (λ (p : Planned). eqb (p .number) 0) says ∙ refused-number (readAnswer file) bad),
+      ),
+    )
+
+read-forward-requires : tie.Need-read-forward-requires
+read-forward-requires c κs = search needs
 
 enum-told : tie.Need-enum-told
 enum-told c = search needs
 
-number-requires : tie.Need-number-requires
-number-requires c κs = search needs
-
-place-requires : tie.Need-place-requires
-place-requires c κs = search needs
-
-declined-requires : tie.Need-declined-requires
-declined-requires c κs = search needs
+refused-requires : tie.Need-refused-requires
+refused-requires c κs = search needs
 
 returns : tie.Need-returns
 returns c =
-    let read = c .before .before .before .before .before in
+    let read = c .before .before .before in
     let start = read .before .before .before .before .before .before in
-    let file = start .args .file .now in
-    let answer = read-answer file _ (read .read .ensures) in
-    let bad = ap isAccepted (sym answer) ∙ told-refused (read .read .result .answer) (c .before .before .before .match .keys2) in
-    let says = c .declined .ensures ∙ ap₂ planDeclined (c .before .before .number .ensures ∙ ap numberOf answer) (c .before .place .ensures ∙ ap placeOf answer) in (
-      count-is read,
-      (
-        says ∙ sym (file-refused (start .args .launch) file _ bad),
-        table-kept (start .args .launch) (tableIn file) (c .declined .result) (lent start) (ap (λ (p : Planned). eqb (p .number) 0) says ∙ refused-number (readAnswer file) bad),
-      ),
-    )
+    let answer = read .read-forward .result .answer in
+    let is = read .read-forward .ensures .0 in
+    let bad = told-refused answer (c .before .match .keys2) in
+    let same = is ∙ forward-refused (start .args .file .now) (ap isAccepted (sym is) ∙ bad) in
+    refusal (start .args .launch) (start .args .file .now) (lent start) answer (c .refused .result) same (ap isAccepted (sym same) ∙ bad) (c .refused .ensures)
+
+keys-of-kind-requires : tie.Need-keys-of-kind-requires
+keys-of-kind-requires c κs = has-keys c
+
+window-answer-requires : tie.Need-window-answer-requires
+window-answer-requires c κs = has-keys (c .before .before .before) .few
+
+refused-requires-2 : tie.Need-refused-requires-2
+refused-requires-2 c κs = search needs
+
+returns-2 : tie.Need-returns-2
+returns-2 c =
+    let window = c .before in
+    let kind = window .before .before .before in
+    let told = kind .before in
+    let start = told .before .before .before .before .before .before .before .before .before in
+    let neither = forward-neither (start .args .file .now) (forward told) (sym (kind-is kind) ∙ not-true _ (window .before .if1 .taken)) in
+    let same = window .window-answer .ensures ∙ (ap windowAnswer (table-is told) ∙ neither .0) in
+    refusal (start .args .launch) (start .args .file .now) (lent start) (window .window-answer .result) (c .refused2 .result) same (neither .1) (c .refused2 .ensures)
 
 plan-table-requires : tie.Need-plan-table-requires
 plan-table-requires c κs =
-    let told = c .before .before .before .before in
-    let file = told .before .before .before .before .before .before .before .before .before .args .file .now in (
-      subst⁻¹ Legal (table-is told) (read-legal file (accepted told)),
-      read-nested file _ (told .before .before .before .read .ensures) (accepted told) ∙ sym (ap isNested (table-is told)),
-    )
+    let branch = c .before .before .before .before .before in
+    let kind = branch .before .before in
+    let found = kind .keys-of-kind .ensures in
+    (subst⁻¹ Legal (table-is (kind .before)) (read-legal _ (accepted branch)), (found .nested-is, found .held))
 
 same-length : tie.Need-same-length
 same-length c = search needs
@@ -82,17 +131,18 @@ same-length-3 c = search needs
 same-length-4 : tie.Need-same-length-4
 same-length-4 c = search needs
 
-returns-2 : tie.Need-returns-2
-returns-2 c =
+returns-3 : tie.Need-returns-3
+returns-3 c =
     let planned = c .before .before .before .before .before .before .before .before in
-    let told = planned .before .before .before .before .before in
+    let branch = planned .before .before .before .before .before .before in
+    let told = branch .before .before .before in
     let start = told .before .before .before .before .before .before .before .before .before in
     let file = start .args .file .now in
     let e = table-is told in
     let made = planned .plan-table in (
-      count-is (told .before .before .before),
+      ap (λ (t : Table). t .count) (e ∙ table-accepted file (accepted branch)),
       (
-        made .ensures .0 ∙ (ap (λ (t : Table). planTable (start .args .launch) t (lent start)) e ∙ sym (file-accepted (start .args .launch) file _ (accepted told))),
+        made .ensures .0 ∙ (ap (λ (t : Table). planTable (start .args .launch) t (lent start)) e ∙ sym (file-accepted (start .args .launch) file _ (accepted branch))),
         made .ensures .1 ∙ ap (λ (t : Table). listsAfter (start .args .launch) t (made .result) (lent start)) e,
       ),
     )
@@ -101,15 +151,17 @@ pub plan-counted-spec : {M : Type 1} → statement M
 plan-counted-spec =
     tie.close
     (tie.spec
-    read-requires
+    read-forward-requires
     enum-told
-    number-requires
-    place-requires
-    declined-requires
+    refused-requires
     returns
+    keys-of-kind-requires
+    window-answer-requires
+    refused-requires-2
+    returns-2
     plan-table-requires
     same-length
     same-length-2
     same-length-3
     same-length-4
-    returns-2)
+    returns-3)

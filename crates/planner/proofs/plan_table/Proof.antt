@@ -8,6 +8,7 @@ use borrow.Author.Tests.{ltb-false}
 use lib.Dec.{eqb}
 use Rattle.base.specs.Limits.{maxLaunch}
 use Rattle.clock.specs.Clock.{badLaunch}
+use Rattle.table.specs.Kinds.{isNested}
 use Rattle.plans.specs.declared.Planned.{Planned}
 use Rattle.plans.specs.Planning.{LentLists}
 use Rattle.plans.specs.KindJobs.{HeldJobs}
@@ -44,22 +45,28 @@ returns c =
 cast-count : tie.Need-cast-count
 cast-count c = search needs
 
-keys-by-requires : tie.Need-keys-by-requires
-keys-by-requires c κs = search needs
-
 jobs-last-first-requires : tie.Need-jobs-last-first-requires
 jobs-last-first-requires c κs =
-    let pre = c .before .before .before .before .before .before .before .before .before .pre in
-    (pre .0, (low (c .before .before), rw (sym (pre .1) ∙ c .before .if2 .taken) (c .keys-by .ensures)))
+    let pre = c .before .before .before .before .before .before .before .pre in
+    (pre .0, (low c, pre .1 .1))
 
 -- the array holds the table's jobs
-held-nested : (c : tie.After-jobs-last-first) → HeldJobs true (c .jobs-last-first .result) (c .before .before .before .before .before .before .before .before .before .before .args .table .count)
-held-nested c =
-    let start = c .before .before .before .before .before .before .before .before .before .before in
-    rw (sym (start .pre .1) ∙ c .before .before .if2 .taken) at (held-table (start .args .launch) (start .args .table) (low (c .before .before .before)) (start .pre .0) (c .jobs-last-first .result) (c .jobs-last-first .ensures))
+held : (c : tie.After-jobs-last-first)
+    → HeldJobs (isNested (c .before .before .before .before .before .before .before .before .args .table)) (c .jobs-last-first .result)
+    (c .before .before .before .before .before .before .before .before .args .table .count)
+held c =
+    let start = c .before .before .before .before .before .before .before .before in
+    held-table (start .args .launch) (start .args .table) (low (c .before)) (start .pre .0) (c .jobs-last-first .result) (c .jobs-last-first .ensures)
+
+-- the kind in each branch
+nested-is : (c : tie.Then2) → isNested (c .before .before .before .before .before .before .before .before .before .args .table) ≡ true
+nested-is c = sym (c .before .before .before .before .before .before .before .before .before .pre .1 .0) ∙ c .if2 .taken
+
+similar-is : (c : tie.Else2) → isNested (c .before .before .before .before .before .before .before .before .before .args .table) ≡ false
+similar-is c = sym (c .before .before .before .before .before .before .before .before .before .pre .1 .0) ∙ c .if2 .left
 
 plan-nested-requires : tie.Need-plan-nested-requires
-plan-nested-requires c κs = held-nested (c .before .before .before .before)
+plan-nested-requires c κs = let branch = c .before .before .before .before in rw (nested-is branch) at (held (branch .before))
 
 same-length : tie.Need-same-length
 same-length c = search needs
@@ -76,31 +83,17 @@ same-length-4 c = search needs
 returns-2 : tie.Need-returns-2
 returns-2 c =
     let made = c .before .before .before .before .before .before .before .before in
-    let jobs = made .before .before .before .before .before in
-    let start = jobs .before .before .before .before .before .before .before .before .before .before in
-    let is = sym (start .pre .1) ∙ jobs .before .before .if2 .taken in (
+    let branch = made .before .before .before .before .before in
+    let jobs = branch .before in
+    let start = jobs .before .before .before .before .before .before .before .before in (
       made .plan-nested .ensures .0
-          ∙ reply-of-jobs (start .args .launch) (start .args .table) true is _ (jobs .jobs-last-first .ensures) (accepted (jobs .before .before .before .before)) (lent start),
+          ∙ reply-of-jobs (start .args .launch) (start .args .table) true (nested-is branch) _ (jobs .jobs-last-first .ensures) (accepted (jobs .before .before)) (lent start),
       made .plan-nested .ensures .1
-          ∙ lists-of-jobs (start .args .launch) (start .args .table) true is _ (jobs .jobs-last-first .ensures) (made .plan-nested .result) (lent start),
+          ∙ lists-of-jobs (start .args .launch) (start .args .table) true (nested-is branch) _ (jobs .jobs-last-first .ensures) (made .plan-nested .result) (lent start),
     )
 
-keys-by-requires-2 : tie.Need-keys-by-requires-2
-keys-by-requires-2 c κs = search needs
-
-jobs-last-first-requires-2 : tie.Need-jobs-last-first-requires-2
-jobs-last-first-requires-2 c κs =
-    let pre = c .before .before .before .before .before .before .before .before .before .pre in
-    (pre .0, (low (c .before .before), rw (sym (pre .1) ∙ c .before .if2 .left) (c .keys-by2 .ensures)))
-
--- the array holds the table's jobs
-held-similar : (c : tie.After-jobs-last-first2) → HeldJobs false (c .jobs-last-first2 .result) (c .before .before .before .before .before .before .before .before .before .before .args .table .count)
-held-similar c =
-    let start = c .before .before .before .before .before .before .before .before .before .before in
-    rw (sym (start .pre .1) ∙ c .before .before .if2 .left) at (held-table (start .args .launch) (start .args .table) (low (c .before .before .before)) (start .pre .0) (c .jobs-last-first2 .result) (c .jobs-last-first2 .ensures))
-
 plan-similar-requires : tie.Need-plan-similar-requires
-plan-similar-requires c κs = held-similar (c .before .before .before .before)
+plan-similar-requires c κs = let branch = c .before .before .before .before in rw (similar-is branch) at (held (branch .before))
 
 same-length-5 : tie.Need-same-length-5
 same-length-5 c = search needs
@@ -117,13 +110,13 @@ same-length-8 c = search needs
 returns-3 : tie.Need-returns-3
 returns-3 c =
     let made = c .before .before .before .before .before .before .before .before in
-    let jobs = made .before .before .before .before .before in
-    let start = jobs .before .before .before .before .before .before .before .before .before .before in
-    let is = sym (start .pre .1) ∙ jobs .before .before .if2 .left in (
+    let branch = made .before .before .before .before .before in
+    let jobs = branch .before in
+    let start = jobs .before .before .before .before .before .before .before .before in (
       made .plan-similar .ensures .0
-          ∙ reply-of-jobs (start .args .launch) (start .args .table) false is _ (jobs .jobs-last-first2 .ensures) (accepted (jobs .before .before .before .before)) (lent start),
+          ∙ reply-of-jobs (start .args .launch) (start .args .table) false (similar-is branch) _ (jobs .jobs-last-first .ensures) (accepted (jobs .before .before)) (lent start),
       made .plan-similar .ensures .1
-          ∙ lists-of-jobs (start .args .launch) (start .args .table) false is _ (jobs .jobs-last-first2 .ensures) (made .plan-similar .result) (lent start),
+          ∙ lists-of-jobs (start .args .launch) (start .args .table) false (similar-is branch) _ (jobs .jobs-last-first .ensures) (made .plan-similar .result) (lent start),
     )
 
 pub plan-table-spec : {M : Type 1} → statement M
@@ -134,7 +127,6 @@ plan-table-spec =
     declined-requires
     returns
     cast-count
-    keys-by-requires
     jobs-last-first-requires
     plan-nested-requires
     same-length
@@ -142,8 +134,6 @@ plan-table-spec =
     same-length-3
     same-length-4
     returns-2
-    keys-by-requires-2
-    jobs-last-first-requires-2
     plan-similar-requires
     same-length-5
     same-length-6

@@ -3,14 +3,14 @@ use mathlib.Core.Path.{ap, _∙_}
 use native.Mathlib.Omega.{arith}
 use borrow.Author.Needs.{needs}
 use Rattle.table.specs.Layout.{taskStart}
-use Rattle.reading.proofs.ReadLaws.{read-head, head-few, table-taken}
+use Rattle.reading.proofs.ReadLaws.{head-few, table-taken}
 use Rattle.reading.proofs.table_in.Statement.{statement}
 use Rattle.reading.proofs.table_in.Tie as tie
 
 take-tasks-requires : tie.Need-take-tasks-requires
 take-tasks-requires c κs =
     let header = c .before .pre .0 in
-    let few = head-few _ (read-head _ (c .before .pre .1)) in
+    let few = head-few _ (c .before .pre .1) in
     (omega (arith, header .0, few .0), omega (arith, ap taskStart (header .0), few .1))
 
 of-places-requires : tie.Need-of-places-requires
