@@ -1,4 +1,5 @@
-//! The six calls of the proved library, as include/planner.h declares them, each in a safe function.
+//! The six calls of the proved library, as include/planner.h declares them, each in a safe function; for `compare/before` also the planning of an
+//! earlier commit's library.
 
 use crate::reference::{Plan, Refusal, Table, Verdict};
 
@@ -93,6 +94,30 @@ extern "C" {
     ) -> BusyCount;
 }
 
+// Planning by the library of an earlier commit: compare/before puts before_ before its names. The header declares it there as it does here.
+#[cfg(feature = "before")]
+extern "C" {
+    fn before_planner_plan(
+        file: *const u8,
+        file_length: usize,
+        launch: u32,
+        marks: *mut u8,
+        marks_length: usize,
+        starts: *mut u32,
+        starts_length: usize,
+        ends: *mut u32,
+        ends_length: usize,
+        tasks: *mut u32,
+        tasks_length: usize,
+    ) -> Planned;
+}
+
+/// Planning as a library exports it.
+type PlanCall = unsafe extern "C" fn(*const u8, usize, u32, *mut u8, usize, *mut u32, usize, *mut u32, usize, *mut u32, usize) -> Planned;
+
+/// Planning as a safe function: a file, a launch tick, and lent lists of marks, starts, ends and tasks.
+pub type Planning = fn(&[u8], u32, &mut [u8], &mut [u32], &mut [u32], &mut [u32]) -> Planned;
+
 // No call has a precondition. A slice's pointer is never null, and slices that are lent by `&mut` don't overlap others.
 
 /// Reading.
@@ -112,21 +137,34 @@ pub fn shift(file: &[u8], frames: i32, out: &mut [u8]) -> Written {
 
 /// Planning at a launch tick.
 pub fn plan(file: &[u8], launch: u32, marks: &mut [u8], starts: &mut [u32], ends: &mut [u32], tasks: &mut [u32]) -> Planned {
-    unsafe {
-        planner_plan(
-            file.as_ptr(),
-            file.len(),
-            launch,
-            marks.as_mut_ptr(),
-            marks.len(),
-            starts.as_mut_ptr(),
-            starts.len(),
-            ends.as_mut_ptr(),
-            ends.len(),
-            tasks.as_mut_ptr(),
-            tasks.len(),
-        )
-    }
+    unsafe { plan_by(planner_plan, file, launch, marks, starts, ends, tasks) }
+}
+
+/// Planning at a launch tick by the library of the earlier commit.
+#[cfg(feature = "before")]
+pub fn plan_before(file: &[u8], launch: u32, marks: &mut [u8], starts: &mut [u32], ends: &mut [u32], tasks: &mut [u32]) -> Planned {
+    unsafe { plan_by(before_planner_plan, file, launch, marks, starts, ends, tasks) }
+}
+
+/// Planning by a library's call.
+///
+/// # Safety
+/// The call is the planning of a library whose header is include/planner.h.
+#[inline(always)]
+unsafe fn plan_by(call: PlanCall, file: &[u8], launch: u32, marks: &mut [u8], starts: &mut [u32], ends: &mut [u32], tasks: &mut [u32]) -> Planned {
+    call(
+        file.as_ptr(),
+        file.len(),
+        launch,
+        marks.as_mut_ptr(),
+        marks.len(),
+        starts.as_mut_ptr(),
+        starts.len(),
+        ends.as_mut_ptr(),
+        ends.len(),
+        tasks.as_mut_ptr(),
+        tasks.len(),
+    )
 }
 
 /// Judging at a launch tick.

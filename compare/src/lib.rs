@@ -4,11 +4,14 @@
 //! - `ffi`: the six calls of the proved library.
 //! - `random`, `inputs`: the seeded generator, and the tables, files and run lists made with it.
 //! - `brute`: the best plan of a small table by trying every keep list.
+//! - `tables`, `measure`: the tables of the benchmarks, and how times are measured.
 //! - `stack`: how much stack a call uses.
 
 pub mod brute;
 pub mod ffi;
 pub mod inputs;
+pub mod measure;
 pub mod random;
 pub mod reference;
 pub mod stack;
+pub mod tables;

@@ -1,0 +1,119 @@
+//! The tables of the benchmarks, and the lists that their plans are written to.
+
+use crate::ffi::{Planned, Planning};
+use crate::random::Random;
+use crate::reference::{Table, Task};
+
+/// The launch tick of every plan and judgement.
+pub const LAUNCH: u32 = 0;
+
+/// A table of these tasks with period 1001/10.
+pub fn table(tasks: &[Task]) -> Table {
+    let mut table = Table { count: tasks.len() as u32, p: 1001, q: 10, ..Table::ZERO };
+    table.tasks[..tasks.len()].copy_from_slice(tasks);
+    table
+}
+
+/// A table of n tasks at shuffled positions: their windows in frames and their lengths. A frame lasts about 100 ticks. A
+/// window has no tick of its first frame.
+fn shuffled(n: usize, window: impl Fn(u32) -> (u32, u32), lengths: impl Fn(u32) -> (u32, u32)) -> Table {
+    let mut tasks: Vec<Task> = (0..n as u32)
+        .map(|i| {
+            let (release, deadline) = window(i);
+            let (mandatory, optional) = lengths(i);
+            Task { release, deadline, mandatory, optional }
+        })
+        .collect();
+    let mut random = Random::new(1);
+    for i in (1..n).rev() {
+        tasks.swap(i, random.index(i + 1));
+    }
+    table(&tasks)
+}
+
+/// n nested windows, each a frame wider on both sides than the next inside it.
+fn nest(n: usize, lengths: impl Fn(u32) -> (u32, u32)) -> Table {
+    shuffled(n, |i| (6 + i, 7 + 2 * n as u32 - i), lengths)
+}
+
+/// n similar windows of four frames, each a frame later than the one before it.
+fn sequence(n: usize, lengths: impl Fn(u32) -> (u32, u32)) -> Table {
+    shuffled(n, |i| (6 + i, 10 + i), lengths)
+}
+
+/// Everything fits: 200 ticks more in each window, at most 180 of work.
+pub fn loose(n: usize) -> Table {
+    nest(n, |i| (20 + i * 7 % 41, 30 + i * 13 % 89))
+}
+
+/// Mandatory parts take half of the ticks, and half of the optional parts do not fit.
+pub fn tight(n: usize) -> Table {
+    nest(n, |i| (80 + i * 7 % 41, 144 + i * 37 % 211))
+}
+
+/// Each task runs on both sides of those inside it: 2n - 1 runs.
+pub fn most_runs(n: usize) -> Table {
+    nest(n, |i| (20 + i * 7 % 41, 110 + i * 13 % 29))
+}
+
+/// Each task leaves a gap below its run, and the outermost fills all of them.
+pub fn most_gaps(n: usize) -> Table {
+    nest(n, |i| if i == 0 { (160 * n as u32, 10) } else { (20, 10) })
+}
+
+/// Every optional part has 0 ticks, so there is nothing to choose.
+pub fn mandatory_only(n: usize) -> Table {
+    nest(n, |i| (20 + i * 7 % 41, 0))
+}
+
+/// Everything fits: at most 98 ticks of work in each frame.
+pub fn similar_loose(n: usize) -> Table {
+    sequence(n, |i| (20 + i * 7 % 41, 10 + i * 13 % 29))
+}
+
+/// Mandatory parts take half of the ticks, and of 64 optional parts half do not fit.
+pub fn similar_tight(n: usize) -> Table {
+    sequence(n, |i| (30 + i * 7 % 41, 82 + i * 37 % 97))
+}
+
+/// The tables of 64 tasks whose planning is measured, with their names.
+pub fn full() -> [(&'static str, Table); 7] {
+    [
+        ("everything fits", loose(64)),
+        ("half of the parts dropped", tight(64)),
+        ("127 runs", most_runs(64)),
+        ("one task into 63 gaps", most_gaps(64)),
+        ("all optional parts of 0 ticks", mandatory_only(64)),
+        ("similar, everything fits", similar_loose(64)),
+        ("similar, half of the parts dropped", similar_tight(64)),
+    ]
+}
+
+/// Lists to lend, never cleared between calls.
+#[derive(Clone, Debug, PartialEq, Eq)]
+pub struct Lists {
+    pub marks: Vec<u8>,
+    pub starts: Vec<u32>,
+    pub ends: Vec<u32>,
+    pub tasks: Vec<u32>,
+}
+
+impl Default for Lists {
+    /// Lists that are long enough for every table.
+    fn default() -> Lists {
+        Lists { marks: vec![0xaa; 64], starts: vec![0xaaaa; 127], ends: vec![0xaaaa; 127], tasks: vec![0xaaaa; 127] }
+    }
+}
+
+impl Lists {
+    /// Plans a file into these lists by a library.
+    pub fn plan(&mut self, planning: Planning, file: &[u8]) -> Planned {
+        planning(file, LAUNCH, &mut self.marks, &mut self.starts, &mut self.ends, &mut self.tasks)
+    }
+}
+
+/// What a plan comes to, in words.
+pub fn summary(said: &Planned) -> String {
+    assert_eq!(said.number, 0);
+    format!("kept {}, discarded {}, {} runs", said.kept, said.discarded, said.runs)
+}
