@@ -3,6 +3,7 @@ pub mod ExceedLaws
 pub mod JobPlans
 pub mod MarkLaws
 pub mod PlanLaws
+pub mod AskedPlans
 pub mod UpToLaws
 pub mod InTimeLaws
 pub mod FittingLaws

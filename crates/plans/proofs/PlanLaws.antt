@@ -24,10 +24,10 @@ use Rattle.schedule.specs.Jobs.{jobOf, jobAt, jobsOf, workOf, counts}
 use Rattle.schedule.specs.Ticks.{Owner}
 use Rattle.schedule.specs.Runnings.{Whole, Running, discards}
 use Rattle.base.specs.Members.{All}
-use Rattle.schedule.specs.Runs.{ownerOf, Together, startsOf, endsOf, tasksOf}
+use Rattle.schedule.specs.Runs.{tooMany, ownerOf, Together}
 use Rattle.schedule.specs.Judging.{verdict, firstBadMark, judgeSays, judgeBy, judgeTable, judged, keptCount, discardedCount}
 use Rattle.schedule.proofs.JudgeLaws.{job-position, together-discards, judge-verdict}
-use Rattle.schedule.proofs.ColumnLaws.{columns-runs, columns-good}
+use Rattle.base.specs.Limits.{maxRuns}
 use Rattle.placement.proofs.RunOrder.{Listed}
 use Rattle.placement.proofs.PlanLaws.{SameMarks}
 use Rattle.orders.specs.KindOrder.{kindBefore, orderLastFirst, jobsLastFirst}
@@ -176,8 +176,8 @@ module _ (launch : ℕ) (t : Table) (legal : Legal t) (none : mandatoryFit launc
 
   -- Demand 2: the judge accepts the plan, with the plan's counts.
   table-judged : badLaunch launch ≡ false
-      → judgeTable launch t (planMarks launch t) (startsOf (planRuns launch t)) (endsOf (planRuns launch t)) (tasksOf (planRuns launch t)) ≡ judgeSays true (planOf launch t .kept) (planOf launch t .discarded)
-  unfolding judgeTable judgeBy verdict firstBadMark
+      → judgeTable launch t (planMarks launch t) (planRuns launch t) ≡ judgeSays true (planOf launch t .kept) (planOf launch t .discarded)
+  unfolding judgeTable judgeBy verdict firstBadMark tooMany
   table-judged low =
       let good : firstBadMark (planMarks launch t) (t .count) ≡ t .count =
       none-passes (λ k. ltb 1 (getD (planMarks launch t) k 0)) (t .count) (λ k l. le-ltb 1 (getD (planMarks launch t) k 0) (marks-low k l)) in
@@ -187,8 +187,7 @@ module _ (launch : ℕ) (t : Table) (legal : Legal t) (none : mandatoryFit launc
         eq-eqb (t .count) (t .count) refl,
         good,
         le-ltb (t .count) (t .count) (omega arith),
-        columns-good (planRuns launch t) (omega (arith, plan-few, legal-count legal)),
-        columns-runs (planRuns launch t),
+        le-ltb maxRuns (length (planRuns launch t)) (omega (arith, plan-few, legal-count legal)),
         plan-verdict,
         plan-kept,
         plan-discarded,
@@ -209,7 +208,7 @@ pub record Plannable (launch : ℕ) (file : List ℕ) : Type 0 where
 
 -- Demand 2: the judge accepts every plan, with the plan's counts.
 pub plan-judged : (launch : ℕ) (file : List ℕ) → Plannable launch file
-    → judged launch file (planMarks launch (tableIn file)) (startsOf (planRuns launch (tableIn file))) (endsOf (planRuns launch (tableIn file))) (tasksOf (planRuns launch (tableIn file)))
+    → judged launch file (planMarks launch (tableIn file)) (planRuns launch (tableIn file))
     ≡ judgeSays true (planOf launch (tableIn file) .kept) (planOf launch (tableIn file) .discarded)
 unfolding judged
 plan-judged launch file p = rw (p .accepted) (table-judged launch (tableIn file) (p .legal) (p .none) (p .launched))

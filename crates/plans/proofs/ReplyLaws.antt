@@ -201,7 +201,7 @@ module _ (launch : ℕ) (file : List ℕ) (reply : Planned) (old new : LentLists
 pub reply-judged : (launch : ℕ) (file : List ℕ) (reply : Planned) (old new : LentLists) → Replied launch file reply old new → JudgeAccepts launch file reply new
 reply-judged launch file reply old new r z =
     let m = made launch file reply old new r z in
-    rw (marks-taken launch file reply old new r z, starts-taken launch file reply old new r z, ends-taken launch file reply old new r z, tasks-taken launch file reply old new r z)
+    rw (marks-taken launch file reply old new r z, runs-taken launch file reply old new r z)
     (plan-judged launch file (m .made) ∙ sym (ap (λ (p : Planned). judgeSays true (p .kept) (p .discarded)) (m .reply-is)))
 
 -- Demand 3, of what was written.

@@ -48,8 +48,7 @@ EightExactly launch file reply = readAnswer file ≡ Accepted → badLaunch laun
 abbrev pub JudgeAccepts : ℕ → List ℕ → Planned → LentLists → Type 0
 JudgeAccepts launch file reply after =
     reply .number ≡ 0
-    → judged launch file (marksIn file after) (take (reply .runs) (after .starts)) (take (reply .runs) (after .ends)) (take (reply .runs) (after .tasks))
-    ≡ judgeSays true (reply .kept) (reply .discarded)
+    → judged launch file (marksIn file after) (runsIn reply after) ≡ judgeSays true (reply .kept) (reply .discarded)
 
 -- Demand 3, of every table that was planned
 abbrev pub PlannedOptimal : ℕ → List ℕ → Planned → LentLists → Type 0

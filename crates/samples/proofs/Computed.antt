@@ -25,7 +25,7 @@ use Rattle.table.specs.Writing.{headBits, rowsFile, fileOf, tooWide, firstTooWi
 use Rattle.table.specs.Moving.{movedOutside, firstOutside, moveReply}
 use Rattle.schedule.specs.Jobs.{jobOf, jobAt}
 use Rattle.schedule.specs.Ticks.{countBelow}
-use Rattle.schedule.specs.Runs.{badColumns, runAt, runsOf}
+use Rattle.schedule.specs.Runs.{tooMany, runAt, runsOf}
 use Rattle.schedule.specs.Judging.{
   noneEmpty,
   followFrom,
@@ -43,7 +43,8 @@ use Rattle.schedule.specs.Judging.{
   judgeTable,
   judged,
 }
-use Rattle.schedule.specs.BusyCount.{busyReply}
+use Rattle.schedule.specs.BusyCount.{shared, busySum, busyReply}
+use Rattle.schedule.specs.Queries.{outOfOrder, firstOutOfOrder, runsAnswer, firstRun, runAtTick, runFromTick, runsThat, touching, stretchOf}
 use Rattle.choice.specs.Choice.{total, worksFit, worksOf, keepLists, keptTicks, lexLess, discardedWorth, keptWorth, key, better, best, bestList, chosenBy}
 use Rattle.placement.specs.Placing.{worksPlaced, latestFirst}
 use Rattle.placement.specs.ByPosition.{numberAt}
@@ -91,5 +92,5 @@ use Rattle.samples.specs.SampleTests.{allPass, sameNumbers, sameRuns, sa
 
 -- every sample flight and every call whose test is computed passes, and P8 is planned into lists that are long enough for every table
 pub all-pass : (allPass sampleMet computedSamples ≡ true) × (allPass callMet computedRows ≡ true) × (longReply 0 p8File .number ≡ 0)
-unfolding allPass sampleMet planMet kindMet fileMet callMet sameTable sameTasks sameRuns sameNumbers textOf ascii printedInput launchIn printed longReply refusalText planText planLines runLines runLine dropLines dropsFrom line fields decimal decimalWithin planReply planTable replyBy madeBy planOf planRunsBy planRuns marksBy planMarks numberAt keepList tooShort firstUnmet runsBy chosenAs unmetBy exceedingAfter jobsLastFirst orderLastFirst beforeBy kindBefore similarBefore nestBefore lastFirst insertLater chosenInOrderBy orderKey firstLate placedInOrder fitsInOrder finish inTime endsAt worksPlaced latestFirst chosenBy bestList best better key keptWorth discardedWorth lexLess keptTicks keepLists worksFit worksOf total countBelow busyReply judged judgeTable judgeBy firstBadMark keptCount discardedCount verdict verdictBy exactTotals totalOf inWindows knownTasks inOrder followFrom noneEmpty runsOf runAt badColumns jobAt jobOf moveReply firstOutside movedOutside writeReply rowsReply firstTooWide tooWide fileOf rowsFile headBits reading readNested readAnswer headAnswer frontAnswer paddingSet tableIn taskIn taskFrom qIn pIn countIn nestingAnswer windowAnswer windowsAnswer kindAnswer forwardAnswer ofNeitherKind isNested pairwise failsEarlier similar noLater nested contains reversed badPeriod badCount fileLength taskStart noTable tableOf taskAt releaseTick deadlineTick releaseOffset deadlineOffset rowsBits rowBits pack bytesFrom bytesFor bitIn bitsOf field number bitAt placesFrom places someBelow lowest lowestFrom
+unfolding allPass sampleMet planMet kindMet fileMet callMet sameTable sameTasks sameRuns sameNumbers textOf ascii printedInput launchIn printed longReply refusalText planText planLines runLines runLine dropLines dropsFrom line fields decimal decimalWithin planReply planTable replyBy madeBy planOf planRunsBy planRuns marksBy planMarks numberAt keepList tooShort firstUnmet runsBy chosenAs unmetBy exceedingAfter jobsLastFirst orderLastFirst beforeBy kindBefore similarBefore nestBefore lastFirst insertLater chosenInOrderBy orderKey firstLate placedInOrder fitsInOrder finish inTime endsAt worksPlaced latestFirst chosenBy bestList best better key keptWorth discardedWorth lexLess keptTicks keepLists worksFit worksOf total countBelow stretchOf touching runsThat runFromTick runAtTick firstRun runsAnswer firstOutOfOrder outOfOrder busyReply busySum shared judged judgeTable judgeBy firstBadMark keptCount discardedCount verdict verdictBy exactTotals totalOf inWindows knownTasks inOrder followFrom noneEmpty runsOf runAt tooMany jobAt jobOf moveReply firstOutside movedOutside writeReply rowsReply firstTooWide tooWide fileOf rowsFile headBits reading readNested readAnswer headAnswer frontAnswer paddingSet tableIn taskIn taskFrom qIn pIn countIn nestingAnswer windowAnswer windowsAnswer kindAnswer forwardAnswer ofNeitherKind isNested pairwise failsEarlier similar noLater nested contains reversed badPeriod badCount fileLength taskStart noTable tableOf taskAt releaseTick deadlineTick releaseOffset deadlineOffset rowsBits rowBits pack bytesFrom bytesFor bitIn bitsOf field number bitAt placesFrom places someBelow lowest lowestFrom
 all-pass = (refl, refl, refl)

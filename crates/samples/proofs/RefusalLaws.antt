@@ -1,14 +1,13 @@
 -- The refusals: the law that turns the test of a call into what its row says, and laws for the calls that are too large to compute.
-use Prim.Native.Nat.{ℕ, zero, suc, _+_, _≤_}
+use Prim.Native.Nat.{ℕ, zero, suc, _≤_}
 use mathlib.Core.Path.{_≡_, refl, ap, _∙_}
 use mathlib.Core.Bool.{true}
 use native.Mathlib.Omega.{arith}
 use lib.Dec.{eqb}
-use lib.ListN.{replicate, length-replicate, getD-replicate}
-use borrow.Author.Tests.{eqb-true, eq-eqb, le-ltb}
+use lib.ListN.{length, replicate, length-replicate}
+use borrow.Author.Tests.{eqb-true, le-ltb}
 use Rattle.base.specs.Limits.{maxRuns}
 use Rattle.base.specs.Members.{All}
-use Rattle.base.specs.Places.{places, placesFrom}
 use Rattle.base.proofs.MemberLaws.{all-append}
 use Rattle.table.specs.declared.Task.{Task}
 use Rattle.table.specs.declared.Table.{Table}
@@ -23,8 +22,9 @@ use Rattle.table.specs.Writing.{fileOf, writeReply}
 use Rattle.table.proofs.TableLaws.{tableOf-canonical}
 use Rattle.table.proofs.FileLaws.{accepted-legal}
 use Rattle.table.proofs.RoundTrip.{written-read}
-use Rattle.schedule.specs.Runs.{badColumns, runAt, runsOf}
+use Rattle.schedule.specs.Runs.{runOf, tooMany}
 use Rattle.schedule.specs.BusyCount.{shared, busySum, busyReply}
+use Rattle.schedule.specs.Queries.{runsAnswer, runsNumber, runsPlace, touching, stretchOf}
 use Rattle.samples.specs.Refusals.{
   Call,
   reads,
@@ -33,6 +33,10 @@ use Rattle.samples.specs.Refusals.{
   plans,
   judges,
   busyCounts,
+  checks,
+  asksAt,
+  asksFrom,
+  asksTouching,
   prints,
   CallSays,
   counted,
@@ -40,8 +44,8 @@ use Rattle.samples.specs.Refusals.{
   largeRows,
   refusals,
 }
-use Rattle.samples.specs.SampleTests.{sameTable, callMet}
-use Rattle.samples.proofs.SameLaws.{pass-all, three, numbers-same, table-same, planned-same, written-same, judged-same, busy-same}
+use Rattle.samples.specs.SampleTests.{sameRuns, sameTable, callMet}
+use Rattle.samples.proofs.SameLaws.{pass-all, both, three, numbers-same, runs-same, table-same, planned-same, written-same, judged-same, busy-same}
 use Rattle.samples.specs.Samples.{p8Table, p8File, p8Marks, p8Runs}
 use Rattle.samples.proofs.Computed.{all-pass}
 use Rattle.samples.proofs.LaunchSamples.{planned-later}
@@ -56,8 +60,16 @@ call-says (reads file number place t) e =
 call-says (writes t room reply) e = written-same _ _ e
 call-says (moves file shift room reply) e = written-same _ _ e
 call-says (plans file launch lists reply) e = planned-same _ _ e
-call-says (judges file launch marks starts ends tasks reply) e = judged-same _ _ e
-call-says (busyCounts starts ends tasks a b reply) e = busy-same _ _ e
+call-says (judges file launch marks runs reply) e = judged-same _ _ e
+call-says (busyCounts runs a b reply) e = busy-same _ _ e
+call-says (checks runs number place) e =
+    let answer = runsAnswer runs in
+    both (eqb (runsNumber answer) number) (eqb (runsPlace answer) place) (eqb-true _ _) (eqb-true _ _) e
+call-says (asksAt runs tick numbers) e = numbers-same _ _ e
+call-says (asksFrom runs tick numbers) e = numbers-same _ _ e
+call-says (asksTouching runs a b first part) e =
+    let at = stretchOf runs a b in
+    three (sameRuns (touching runs a b) part) (eqb (at .first) first) (eqb (at .runs) (length part)) (runs-same _ _) (eqb-true _ _) (eqb-true _ _) e
 call-says (prints input text) e = numbers-same _ _ e
 
 -- every row whose test is computed
@@ -75,29 +87,16 @@ written-reads count p q task room bytes e =
     ∙ ap {B = Reading} (λ (x : Table). record { answer = Accepted; nested = isNested x; table = x }) (tableOf-canonical count p q task) in
     rw r (refl, refl, refl)
 
--- runs of one tick each, from run i on
-ticks-from : (n i c : ℕ) → i + c ≤ n → busySum 0 9 (placesFrom (runAt (replicate n 0) (replicate n 1) (replicate n 0)) i c) ≡ c
-unfolding placesFrom busySum shared runAt
-ticks-from n i zero h = refl
-ticks-from n i (suc c) h =
-    rw (
-      getD-replicate {A = ℕ} n i 0 0 (omega arith),
-      getD-replicate {A = ℕ} n i 1 0 (omega arith),
-      ticks-from n (suc i) c (omega arith),
-    )
-    (omega arith)
+-- the ticks of so many runs of one tick each
+ticks-of : (n : ℕ) → busySum 0 9 (replicate n (runOf 0 1 0)) ≡ n
+unfolding busySum shared
+ticks-of zero = refl
+ticks-of (suc n) = omega (arith, ticks-of n)
 
 -- so many of them are counted
-ticks-counted : (n : ℕ) → n ≤ maxRuns → CallSays (busyCounts (replicate n 0) (replicate n 1) (replicate n 0) 0 9 (counted n))
-unfolding busyReply badColumns runsOf places
-ticks-counted n h =
-    rw (
-      length-replicate {A = ℕ} n 0,
-      length-replicate {A = ℕ} n 1,
-      le-ltb maxRuns n h,
-      eq-eqb n n refl,
-      ticks-from n 0 n (omega arith),
-    )
+ticks-counted : (n : ℕ) → n ≤ maxRuns → CallSays (busyCounts (replicate n (runOf 0 1 0)) 0 9 (counted n))
+unfolding busyReply tooMany
+ticks-counted n h = rw (length-replicate n (runOf 0 1 0), le-ltb maxRuns n h, ticks-of n)
 
 -- The refusals: each call of the table gets the whole reply of its row.
 pub refusal-samples : All CallSays refusals

@@ -1,6 +1,6 @@
--- The refusals of document 01, with 7 and 8 as request 1 of document 02 has them and 14 of request 2, as one table of 134 calls and their whole replies:
--- every number with its place, the order among the numbers, calls at a limit that are not refused, calls on similar tables, which are not refused either, and
--- what the judge says of runs at the ends of a window.
+-- The refusals of document 01, with 7 and 8 as request 1 of document 02 has them, 14 of request 2 and 15 of request 5, as one table of 163 calls and their
+-- whole replies: every number with its place, the order among the numbers, calls at a limit that are not refused, calls on similar tables, which are not
+-- refused either, what the judge says of runs at the ends of a window, and what the queries answer at the ends of runs.
 use Prim.Native.Nat.{ℕ, _-_}
 use mathlib.Core.Path.{_≡_}
 use mathlib.Core.Bool.{true, false}
@@ -16,9 +16,25 @@ use Rattle.table.specs.Writing.{fileOf, writeReply}
 use Rattle.table.specs.Moving.{moveReply}
 use Rattle.schedule.specs.declared.Judged.{Judged}
 use Rattle.schedule.specs.declared.Busy.{Busy}
-use Rattle.schedule.specs.Runs.{startsOf, endsOf, tasksOf}
+use Rattle.schedule.specs.declared.Run.{Run}
+use Rattle.schedule.specs.declared.Found.{Found}
+use Rattle.schedule.specs.Ticks.{one}
+use Rattle.schedule.specs.Runs.{runOf as run, noRun}
 use Rattle.schedule.specs.Judging.{judged, judgeDeclined, judgeSays}
 use Rattle.schedule.specs.BusyCount.{busyReply}
+use Rattle.schedule.specs.Queries.{
+  runsAnswer,
+  runsNumber,
+  runsPlace,
+  runAtTick,
+  runFromTick,
+  foundNumber,
+  foundPlace,
+  isFound,
+  foundRun,
+  touching,
+  stretchOf,
+}
 use Rattle.plans.specs.declared.Planned.{Planned}
 use Rattle.plans.specs.Planning.{LentLists, lent, listsFor, planDeclined, planReply, planMade}
 use Rattle.printed_plan.specs.ProgramInput.{printedInput}
@@ -35,12 +51,30 @@ pub data Call : Type 0 where
   moves : List ℕ → ℤ → ℕ → Written → Call
   -- planning a file at a launch tick into lent lists
   plans : List ℕ → ℕ → LentLists → Planned → Call
-  -- judging a file at a launch tick, a keep list, and runs by their starts, ends and tasks
-  judges : List ℕ → ℕ → List ℕ → List ℕ → List ℕ → List ℕ → Judged → Call
-  -- the busy count of runs by their starts, ends and tasks, from one tick to another
-  busyCounts : List ℕ → List ℕ → List ℕ → ℕ → ℕ → Busy → Call
+  -- judging a file at a launch tick, a keep list and a run list
+  judges : List ℕ → ℕ → List ℕ → List Run → Judged → Call
+  -- the busy count of a run list, from one tick to another
+  busyCounts : List Run → ℕ → ℕ → Busy → Call
+  -- the check of a run list: the number and the place of the answer
+  checks : List Run → ℕ → ℕ → Call
+  -- the run at a tick, and the first run that starts at a tick or after it: the numbers of the answer
+  asksAt : List Run → ℕ → List ℕ → Call
+  asksFrom : List Run → ℕ → List ℕ → Call
+  -- the runs that share a tick with the interval from one tick to another: the index of the first, and the runs
+  asksTouching : List Run → ℕ → ℕ → ℕ → List Run → Call
   -- printing what an input of the program gets: the bytes of the text
   prints : List ℕ → List ℕ → Call
+
+-- the numbers of a query's answer: the number, the place, 1 for a run or 0 for none, and the run's start, end and task
+abbrev pub foundParts : Found → List ℕ
+foundParts answer =
+    foundNumber answer
+    ∷ foundPlace answer
+    ∷ one (isFound answer)
+    ∷ foundRun answer .start
+    ∷ foundRun answer .end
+    ∷ foundRun answer .task
+    ∷ []
 
 -- what a call's row says of the definitions
 abbrev pub CallSays : Call → Type 0
@@ -49,8 +83,13 @@ CallSays (reads file number place t) =
 CallSays (writes t room reply) = writeReply t room ≡ reply
 CallSays (moves file shift room reply) = moveReply file shift room ≡ reply
 CallSays (plans file launch lists reply) = planReply launch file lists ≡ reply
-CallSays (judges file launch marks starts ends tasks reply) = judged launch file marks starts ends tasks ≡ reply
-CallSays (busyCounts starts ends tasks a b reply) = busyReply starts ends tasks a b ≡ reply
+CallSays (judges file launch marks runs reply) = judged launch file marks runs ≡ reply
+CallSays (busyCounts runs a b reply) = busyReply runs a b ≡ reply
+CallSays (checks runs number place) = (runsNumber (runsAnswer runs) ≡ number) × (runsPlace (runsAnswer runs) ≡ place)
+CallSays (asksAt runs tick numbers) = foundParts (runAtTick runs tick) ≡ numbers
+CallSays (asksFrom runs tick numbers) = foundParts (runFromTick runs tick) ≡ numbers
+CallSays (asksTouching runs a b first part) =
+    (touching runs a b ≡ part) × (stretchOf runs a b .first ≡ first) × (stretchOf runs a b .runs ≡ length part)
 CallSays (prints input text) = printedInput input ≡ text
 
 -- a file that reading refuses: the table is 0 throughout
@@ -262,37 +301,34 @@ planningRows =
 abbrev pub judgingRows : List Call
 judgingRows =
     -- reading's refusal with its place
-    judges longFile 0 [] [] [] [] (judgeDeclined 3 12)
+    judges longFile 0 [] [] (judgeDeclined 3 12)
     -- 7 before 11, where document 01's place would be 1
-    ∷ judges neitherFile 0 [] [] [] [] (judgeDeclined 7 2)
+    ∷ judges neitherFile 0 [] [] (judgeDeclined 7 2)
     -- 11, the task count: a keep list too short and one too long, whatever its marks
-    ∷ judges p8File 0 (2 ∷ 1 ∷ []) [] [] [] (judgeDeclined 11 3)
-    ∷ judges p8File 0 (1 ∷ 2 ∷ 1 ∷ 1 ∷ []) [] [] [] (judgeDeclined 11 3)
+    ∷ judges p8File 0 (2 ∷ 1 ∷ []) [] (judgeDeclined 11 3)
+    ∷ judges p8File 0 (1 ∷ 2 ∷ 1 ∷ 1 ∷ []) [] (judgeDeclined 11 3)
     -- 11, the first mark above 1
-    ∷ judges p8File 0 (1 ∷ 2 ∷ 2 ∷ []) [] [] [] (judgeDeclined 11 1)
+    ∷ judges p8File 0 (1 ∷ 2 ∷ 2 ∷ []) [] (judgeDeclined 11 1)
     -- 11 before 13
-    ∷ judges p8File 0 (1 ∷ 2 ∷ 1 ∷ []) (0 ∷ []) [] [] (judgeDeclined 11 1)
-    -- 13: each column of unequal length, 4,097 runs
-    ∷ judges p8File 0 p8Marks (2 ∷ []) [] [] (judgeDeclined 13 0)
-    ∷ judges p8File 0 p8Marks (2 ∷ []) (4 ∷ []) [] (judgeDeclined 13 0)
-    ∷ judges p8File 0 p8Marks (2 ∷ []) [] (0 ∷ []) (judgeDeclined 13 0)
-    ∷ judges p8File 0 p8Marks (replicate 4_097 0) (replicate 4_097 0) (replicate 4_097 0) (judgeDeclined 13 0)
+    ∷ judges p8File 0 (1 ∷ 2 ∷ 1 ∷ []) (replicate 4_097 noRun) (judgeDeclined 11 1)
+    -- 13: 4,097 runs
+    ∷ judges p8File 0 p8Marks (replicate 4_097 noRun) (judgeDeclined 13 0)
     -- a similar table, ticks 1 to 5 and 2 to 6: yes with its counts for the planner's plan, and for another that keeps the other part and runs late
-    ∷ judges tieFile 0 (0 ∷ 1 ∷ []) (1 ∷ 2 ∷ []) (2 ∷ 6 ∷ []) (0 ∷ 1 ∷ []) (judgeSays true 1 1)
-    ∷ judges tieFile 0 (1 ∷ 0 ∷ []) (3 ∷ 5 ∷ []) (5 ∷ 6 ∷ []) (0 ∷ 1 ∷ []) (judgeSays true 1 1)
+    ∷ judges tieFile 0 (0 ∷ 1 ∷ []) (run 1 2 0 ∷ run 2 6 1 ∷ []) (judgeSays true 1 1)
+    ∷ judges tieFile 0 (1 ∷ 0 ∷ []) (run 3 5 0 ∷ run 5 6 1 ∷ []) (judgeSays true 1 1)
     -- no for a run outside its window: task 1 before its release, task 0 after its deadline
-    ∷ judges tieFile 0 (1 ∷ 0 ∷ []) (1 ∷ 2 ∷ []) (2 ∷ 4 ∷ []) (1 ∷ 0 ∷ []) (judgeSays false 0 0)
-    ∷ judges tieFile 0 (1 ∷ 0 ∷ []) (2 ∷ 4 ∷ []) (3 ∷ 6 ∷ []) (1 ∷ 0 ∷ []) (judgeSays false 0 0)
+    ∷ judges tieFile 0 (1 ∷ 0 ∷ []) (run 1 2 1 ∷ run 2 4 0 ∷ []) (judgeSays false 0 0)
+    ∷ judges tieFile 0 (1 ∷ 0 ∷ []) (run 2 3 1 ∷ run 4 6 0 ∷ []) (judgeSays false 0 0)
     -- frames 0 to 2 at period 100/1 are the ticks 100 to 200: yes for a run of all of them, no for one that begins a tick earlier, in frame 0
-    ∷ judges p4File 0 (0 ∷ []) (100 ∷ []) (200 ∷ []) (0 ∷ []) (judgeSays true 0 1)
-    ∷ judges p4File 0 (0 ∷ []) (99 ∷ []) (199 ∷ []) (0 ∷ []) (judgeSays false 0 0)
+    ∷ judges p4File 0 (0 ∷ []) (run 100 200 0 ∷ []) (judgeSays true 0 1)
+    ∷ judges p4File 0 (0 ∷ []) (run 99 199 0 ∷ []) (judgeSays false 0 0)
     -- P8: yes for its plan, no for the one that document 01's clock would give
-    ∷ judges p8File 0 p8Marks (startsOf p8Runs) (endsOf p8Runs) (tasksOf p8Runs) (judgeSays true 1 2)
-    ∷ judges p8File 0 (1 ∷ 0 ∷ 1 ∷ []) (2 ∷ 4 ∷ 6 ∷ 7 ∷ 8 ∷ []) (4 ∷ 6 ∷ 7 ∷ 8 ∷ 10 ∷ []) (0 ∷ 2 ∷ 0 ∷ 1 ∷ 0 ∷ []) (judgeSays false 0 0)
+    ∷ judges p8File 0 p8Marks p8Runs (judgeSays true 1 2)
+    ∷ judges p8File 0 (1 ∷ 0 ∷ 1 ∷ []) (run 2 4 0 ∷ run 4 6 2 ∷ run 6 7 0 ∷ run 7 8 1 ∷ run 8 10 0 ∷ []) (judgeSays false 0 0)
     -- an empty window, release tick 3 and deadline tick 2, and no mandatory tick: yes without a run, no for a run at either tick
-    ∷ judges emptyFile 0 (0 ∷ []) [] [] [] (judgeSays true 0 1)
-    ∷ judges emptyFile 0 (1 ∷ []) (2 ∷ []) (3 ∷ []) (0 ∷ []) (judgeSays false 0 0)
-    ∷ judges emptyFile 0 (1 ∷ []) (3 ∷ []) (4 ∷ []) (0 ∷ []) (judgeSays false 0 0)
+    ∷ judges emptyFile 0 (0 ∷ []) [] (judgeSays true 0 1)
+    ∷ judges emptyFile 0 (1 ∷ []) (run 2 3 0 ∷ []) (judgeSays false 0 0)
+    ∷ judges emptyFile 0 (1 ∷ []) (run 3 4 0 ∷ []) (judgeSays false 0 0)
     ∷ []
 
 -- The launch tick: 14, place 0, above 86,399,999, after every refusal of reading and before 8, 9, 11 and 13.
@@ -317,15 +353,15 @@ launchRows =
     ∷ plans lateFile 86_399_999 (lists 3 5 5 5) (planDeclined 8 2)
     ∷ plans p8File 86_399_999 (lists 2 5 5 5) (planDeclined 9 0)
     -- judging: reading's refusal before 14
-    ∷ judges neitherFile 86_400_000 [] [] [] [] (judgeDeclined 7 2)
+    ∷ judges neitherFile 86_400_000 [] [] (judgeDeclined 7 2)
     -- 14, before 11 and before 13
-    ∷ judges tieFile 86_400_000 (0 ∷ 1 ∷ []) (86_400_001 ∷ 86_400_002 ∷ []) (86_400_002 ∷ 86_400_006 ∷ []) (0 ∷ 1 ∷ []) (judgeDeclined 14 0)
-    ∷ judges p8File 86_400_000 (2 ∷ 1 ∷ []) [] [] [] (judgeDeclined 14 0)
-    ∷ judges p8File 86_400_000 p8Marks (2 ∷ []) [] [] (judgeDeclined 14 0)
+    ∷ judges tieFile 86_400_000 (0 ∷ 1 ∷ []) (run 86_400_001 86_400_002 0 ∷ run 86_400_002 86_400_006 1 ∷ []) (judgeDeclined 14 0)
+    ∷ judges p8File 86_400_000 (2 ∷ 1 ∷ []) [] (judgeDeclined 14 0)
+    ∷ judges p8File 86_400_000 p8Marks (replicate 4_097 noRun) (judgeDeclined 14 0)
     -- at the limit: yes for the plan that lies later by it, which with launch 0 gets a no, and no for the plan of launch 0
-    ∷ judges tieFile 86_399_999 (0 ∷ 1 ∷ []) (86_400_000 ∷ 86_400_001 ∷ []) (86_400_001 ∷ 86_400_005 ∷ []) (0 ∷ 1 ∷ []) (judgeSays true 1 1)
-    ∷ judges tieFile 0 (0 ∷ 1 ∷ []) (86_400_000 ∷ 86_400_001 ∷ []) (86_400_001 ∷ 86_400_005 ∷ []) (0 ∷ 1 ∷ []) (judgeSays false 0 0)
-    ∷ judges tieFile 86_399_999 (0 ∷ 1 ∷ []) (1 ∷ 2 ∷ []) (2 ∷ 6 ∷ []) (0 ∷ 1 ∷ []) (judgeSays false 0 0)
+    ∷ judges tieFile 86_399_999 (0 ∷ 1 ∷ []) (run 86_400_000 86_400_001 0 ∷ run 86_400_001 86_400_005 1 ∷ []) (judgeSays true 1 1)
+    ∷ judges tieFile 0 (0 ∷ 1 ∷ []) (run 86_400_000 86_400_001 0 ∷ run 86_400_001 86_400_005 1 ∷ []) (judgeSays false 0 0)
+    ∷ judges tieFile 86_399_999 (0 ∷ 1 ∷ []) (run 1 2 0 ∷ run 2 6 1 ∷ []) (judgeSays false 0 0)
     -- the program's input: fewer than 4 bytes get 1 with the input's length; from 4 bytes on 1 has the length of the file that follows them
     ∷ prints [] (textOf ("REFUSED 1 0" ∷ []))
     ∷ prints (0x05 ∷ 0x26 ∷ 0x5C ∷ []) (textOf ("REFUSED 1 3" ∷ []))
@@ -340,11 +376,62 @@ launchRows =
 -- Busy count: 13 only.
 abbrev pub busyRows : List Call
 busyRows =
-    -- each column of unequal length, 4,097 runs
-    busyCounts (2 ∷ []) [] [] 0 9 (uncounted 13 0)
-    ∷ busyCounts (2 ∷ []) (4 ∷ []) [] 0 9 (uncounted 13 0)
-    ∷ busyCounts (2 ∷ []) [] (0 ∷ []) 0 9 (uncounted 13 0)
-    ∷ busyCounts (replicate 4_097 0) (replicate 4_097 1) (replicate 4_097 0) 0 9 (uncounted 13 0)
+    -- 4,097 runs
+    busyCounts (replicate 4_097 (run 0 1 0)) 0 9 (uncounted 13 0)
+    -- runs that are out of order are counted as they are: one that is empty, one that is reversed, and two that share a tick
+    ∷ busyCounts (run 2 2 0 ∷ run 6 4 0 ∷ run 3 7 1 ∷ run 6 8 0 ∷ []) 0 9 (counted 6)
+    -- an interval without a tick
+    ∷ busyCounts (run 3 7 1 ∷ []) 5 5 (counted 0)
+    ∷ busyCounts (run 3 7 1 ∷ []) 9 0 (counted 0)
+    ∷ []
+
+-- The run list that the queries below are about: the second run begins where the first ends, and then two ticks are free.
+abbrev pub askedRuns : List Run
+askedRuns = run 3 5 0 ∷ run 5 6 2 ∷ run 8 10 1 ∷ []
+
+-- Queries: 13, then 15.
+abbrev pub queryRows : List Call
+queryRows =
+    -- 13: 4,097 runs, also where 15 has its cause
+    checks (replicate 4_097 noRun) 13 0
+    -- 15, the index of the first run that is out of order: one without a tick, one that is reversed, one that starts before the previous end
+    ∷ checks (run 3 3 0 ∷ []) 15 0
+    ∷ checks (run 0 1 0 ∷ run 4 3 0 ∷ []) 15 1
+    ∷ checks (run 0 1 0 ∷ run 1 3 0 ∷ run 2 4 1 ∷ run 4 4 0 ∷ []) 15 2
+    -- a list that is accepted: runs may touch, and so may two of one task; a task that no table has is no fault
+    ∷ checks (run 0 1 0 ∷ run 1 3 0 ∷ run 3 4 4_294_967_295 ∷ []) 0 0
+    ∷ checks [] 0 0
+    -- the run at a tick: none before the first, at its start, at its last tick; at its end the next run has the tick; none in a gap and none after the last
+    ∷ asksAt askedRuns 2 (0 ∷ 0 ∷ 0 ∷ 0 ∷ 0 ∷ 0 ∷ [])
+    ∷ asksAt askedRuns 3 (0 ∷ 0 ∷ 1 ∷ 3 ∷ 5 ∷ 0 ∷ [])
+    ∷ asksAt askedRuns 4 (0 ∷ 0 ∷ 1 ∷ 3 ∷ 5 ∷ 0 ∷ [])
+    ∷ asksAt askedRuns 5 (0 ∷ 0 ∷ 1 ∷ 5 ∷ 6 ∷ 2 ∷ [])
+    ∷ asksAt askedRuns 6 (0 ∷ 0 ∷ 0 ∷ 0 ∷ 0 ∷ 0 ∷ [])
+    ∷ asksAt askedRuns 10 (0 ∷ 0 ∷ 0 ∷ 0 ∷ 0 ∷ 0 ∷ [])
+    -- refusals, with no run
+    ∷ asksAt (run 3 5 0 ∷ run 4 6 1 ∷ []) 3 (15 ∷ 1 ∷ 0 ∷ 0 ∷ 0 ∷ 0 ∷ [])
+    ∷ asksAt (replicate 4_097 noRun) 3 (13 ∷ 0 ∷ 0 ∷ 0 ∷ 0 ∷ 0 ∷ [])
+    -- the first run that starts at a tick or after it
+    ∷ asksFrom askedRuns 0 (0 ∷ 0 ∷ 1 ∷ 3 ∷ 5 ∷ 0 ∷ [])
+    ∷ asksFrom askedRuns 3 (0 ∷ 0 ∷ 1 ∷ 3 ∷ 5 ∷ 0 ∷ [])
+    ∷ asksFrom askedRuns 4 (0 ∷ 0 ∷ 1 ∷ 5 ∷ 6 ∷ 2 ∷ [])
+    ∷ asksFrom askedRuns 8 (0 ∷ 0 ∷ 1 ∷ 8 ∷ 10 ∷ 1 ∷ [])
+    ∷ asksFrom askedRuns 9 (0 ∷ 0 ∷ 0 ∷ 0 ∷ 0 ∷ 0 ∷ [])
+    ∷ asksFrom (run 3 5 0 ∷ run 4 6 1 ∷ []) 0 (15 ∷ 1 ∷ 0 ∷ 0 ∷ 0 ∷ 0 ∷ [])
+    ∷ asksFrom (replicate 4_097 noRun) 0 (13 ∷ 0 ∷ 0 ∷ 0 ∷ 0 ∷ 0 ∷ [])
+    -- the runs that share a tick with an interval: all of them, one by its last tick, one by its first, none where they touch at an end alone, none in a gap
+    ∷ asksTouching askedRuns 0 100 0 askedRuns
+    ∷ asksTouching askedRuns 4 5 0 (run 3 5 0 ∷ [])
+    ∷ asksTouching askedRuns 4 6 0 (run 3 5 0 ∷ run 5 6 2 ∷ [])
+    ∷ asksTouching askedRuns 5 9 1 (run 5 6 2 ∷ run 8 10 1 ∷ [])
+    ∷ asksTouching askedRuns 0 3 0 []
+    ∷ asksTouching askedRuns 10 12 0 []
+    ∷ asksTouching askedRuns 6 8 0 []
+    -- empty where a is not below b, and on a refusal
+    ∷ asksTouching askedRuns 4 4 0 []
+    ∷ asksTouching askedRuns 9 3 0 []
+    ∷ asksTouching (run 3 5 0 ∷ run 4 6 1 ∷ []) 0 9 0 []
+    ∷ asksTouching (replicate 4_097 noRun) 0 9 0 []
     ∷ []
 
 -- Calls at a limit that are not refused.
@@ -353,7 +440,7 @@ limitRows =
     -- 64 tasks are written
     writes (equalTasks 64) 500 (wrote 500)
     -- 4,096 runs are judged; the first is empty, so the reply is no
-    ∷ judges p8File 0 p8Marks (replicate 4_096 0) (replicate 4_096 0) (replicate 4_096 0) (judgeSays false 0 0)
+    ∷ judges p8File 0 p8Marks (replicate 4_096 noRun) (judgeSays false 0 0)
     ∷ []
 
 -- And three more, which are proved by laws: to compute them takes too long.
@@ -364,12 +451,12 @@ largeRows =
     -- 64 tasks are read
     ∷ reads (fileOf (equalTasks 64)) 0 0 (equalTasks 64)
     -- 4,096 runs are counted, one tick each
-    ∷ busyCounts (replicate 4_096 0) (replicate 4_096 1) (replicate 4_096 0) 0 9 (counted 4_096)
+    ∷ busyCounts (replicate 4_096 (run 0 1 0)) 0 9 (counted 4_096)
     ∷ []
 
 -- the rows whose test is computed, and all rows
 abbrev pub computedRows : List Call
-computedRows = limitRows ++ readingRows ++ writingRows ++ movingRows ++ planningRows ++ judgingRows ++ launchRows ++ busyRows
+computedRows = limitRows ++ readingRows ++ writingRows ++ movingRows ++ planningRows ++ judgingRows ++ launchRows ++ busyRows ++ queryRows
 
 abbrev pub refusals : List Call
 refusals = computedRows ++ largeRows

@@ -24,11 +24,12 @@ use Rattle.schedule.specs.Jobs.{jobAt}
 use Rattle.schedule.specs.Runs.{startsOf, endsOf, tasksOf}
 use Rattle.schedule.specs.Judging.{judged}
 use Rattle.schedule.specs.BusyCount.{busyReply}
+use Rattle.schedule.specs.Queries.{runsAnswer, runsNumber, runsPlace, runAtTick, runFromTick, touching, stretchOf}
 use Rattle.plans.specs.declared.Planned.{Planned}
 use Rattle.plans.specs.Planning.{listsFor, planReply, planMarks, planRuns}
 use Rattle.printed_plan.specs.ProgramInput.{printedInput}
 use Rattle.samples.specs.Samples.{Sample, PlanSample, clock, plan, window, move, text, nesting}
-use Rattle.samples.specs.Refusals.{Call, reads, writes, moves, plans, judges, busyCounts, prints}
+use Rattle.samples.specs.Refusals.{Call, reads, writes, moves, plans, judges, busyCounts, checks, asksAt, asksFrom, asksTouching, prints, foundParts}
 
 -- every row of a list passes
 unfoldable pub allPass : {A : Type 0} → (A → Bool) → List A → Bool
@@ -105,6 +106,11 @@ callMet (reads file number place t) =
 callMet (writes t room reply) = sameNumbers (writtenParts (writeReply t room)) (writtenParts reply)
 callMet (moves file shift room reply) = sameNumbers (writtenParts (moveReply file shift room)) (writtenParts reply)
 callMet (plans file launch lists reply) = sameNumbers (planParts (planReply launch file lists)) (planParts reply)
-callMet (judges file launch marks starts ends tasks reply) = sameNumbers (judgedParts (judged launch file marks starts ends tasks)) (judgedParts reply)
-callMet (busyCounts starts ends tasks a b reply) = sameNumbers (busyParts (busyReply starts ends tasks a b)) (busyParts reply)
+callMet (judges file launch marks runs reply) = sameNumbers (judgedParts (judged launch file marks runs)) (judgedParts reply)
+callMet (busyCounts runs a b reply) = sameNumbers (busyParts (busyReply runs a b)) (busyParts reply)
+callMet (checks runs number place) = and (eqb (runsNumber (runsAnswer runs)) number) (eqb (runsPlace (runsAnswer runs)) place)
+callMet (asksAt runs tick numbers) = sameNumbers (foundParts (runAtTick runs tick)) numbers
+callMet (asksFrom runs tick numbers) = sameNumbers (foundParts (runFromTick runs tick)) numbers
+callMet (asksTouching runs a b first part) =
+    and (sameRuns (touching runs a b) part) (and (eqb (stretchOf runs a b .first) first) (eqb (stretchOf runs a b .runs) (length part)))
 callMet (prints input bytes) = sameNumbers (printedInput input) bytes

@@ -18,7 +18,7 @@ use Rattle.table.specs.Reading.{tableIn, readAnswer}
 use Rattle.schedule.specs.declared.Job.{Job}
 use Rattle.schedule.specs.declared.Run.{Run}
 use Rattle.schedule.specs.Jobs.{jobOf, jobAt, workOf, counts}
-use Rattle.schedule.specs.Runs.{runOf, badColumns, runsOf}
+use Rattle.schedule.specs.Runs.{runOf, tooMany}
 use Rattle.schedule.specs.Judging.{noneEmpty, followFrom, inOrder, knownTasks, inWindows, totalOf, exactTotals, verdictBy, verdict}
 use Rattle.schedule.specs.Judging.{keptCount, discardedCount, firstBadMark, judgeSays, judgeBy, judgeTable, judged, SameAtParts, EquallyGood}
 use Rattle.schedule.proofs.TickLaws.{count-same}
@@ -66,10 +66,10 @@ zero-marks-says launch t marks other runs h =
     rw (good .yes, good .kept, good .discarded)
 
 -- the reply of a judge that refuses nothing
-table-says : (launch : ℕ) (t : Table) (marks starts ends tasks : List ℕ) → judgeTable launch t marks starts ends tasks .number ≡ 0
-    → judgeTable launch t marks starts ends tasks ≡ judgeSays (verdict launch t marks (runsOf starts ends tasks)) (keptCount t marks) (discardedCount t marks)
+table-says : (launch : ℕ) (t : Table) (marks : List ℕ) (runs : List Run) → judgeTable launch t marks runs .number ≡ 0
+    → judgeTable launch t marks runs ≡ judgeSays (verdict launch t marks runs) (keptCount t marks) (discardedCount t marks)
 unfolding judgeTable judgeBy verdict
-table-says launch t marks starts ends tasks =
+table-says launch t marks runs =
     cases (badLaunch launch)
     (λ d. rw d (λ z. absurd (omega arith)))
     (λ d.
@@ -80,21 +80,21 @@ table-says launch t marks starts ends tasks =
     rw e
     (cases (ltb (firstBadMark marks (t .count)) (t .count))
     (λ f. rw f (λ z. absurd (omega arith)))
-    (λ f. rw f (cases (badColumns starts ends tasks) (λ g. rw g (λ z. absurd (omega arith))) (λ g. rw g (λ z. refl))))))))
+    (λ f. rw f (cases (tooMany runs) (λ g. rw g (λ z. absurd (omega arith))) (λ g. rw g (λ z. refl))))))))
 
 -- and where it refuses neither list, its two replies are one
-pub zero-marks-judged : (launch : ℕ) (file marks other starts ends tasks : List ℕ) → SameAtParts (tableIn file) marks other
-    → judged launch file marks starts ends tasks .number ≡ 0 → judged launch file other starts ends tasks .number ≡ 0
-    → judged launch file marks starts ends tasks ≡ judged launch file other starts ends tasks
+pub zero-marks-judged : (launch : ℕ) (file marks other : List ℕ) (runs : List Run) → SameAtParts (tableIn file) marks other
+    → judged launch file marks runs .number ≡ 0 → judged launch file other runs .number ≡ 0
+    → judged launch file marks runs ≡ judged launch file other runs
 unfolding judged
-zero-marks-judged launch file marks other starts ends tasks h =
+zero-marks-judged launch file marks other runs h =
     let t = tableIn file in
     cases (isAccepted (readAnswer file))
     (λ e.
     rw e
     (λ a b.
-    table-says launch t marks starts ends tasks a
-    ∙ (zero-marks-says launch t marks other (runsOf starts ends tasks) h ∙ sym (table-says launch t other starts ends tasks b))))
+    table-says launch t marks runs a
+    ∙ (zero-marks-says launch t marks other runs h ∙ sym (table-says launch t other runs b))))
     (λ e. rw e (λ a b. refl))
 
 -- 'Two runs of one task may touch.'

@@ -27,7 +27,7 @@ use Rattle.schedule.specs.Runnings.{WindowHolds, got, Gets, discards}
 use Rattle.base.specs.Members.{All, Any}
 use Rattle.base.proofs.MemberLaws.{all-map, any-map, all-members, any-member, all-places, any-places}
 use Rattle.schedule.specs.declared.Run.{Run}
-use Rattle.schedule.specs.Runs.{runHolds, ownerOf, Together, badColumns, runsOf}
+use Rattle.schedule.specs.Runs.{runHolds, ownerOf, Together, tooMany}
 use Rattle.schedule.specs.Judging.{noneEmpty, inOrder, knownTasks, inWindows, totalOf, exactTotals, verdictBy, verdict, discardedCount, firstBadMark, judgeBy, judgeTable, judged, Acceptable}
 use Rattle.schedule.proofs.RunLaws.{in-holds, run-holds, first-nonempty, rest-nonempty, owner-is-run, owner-has-run, run-ticks}
 
@@ -270,10 +270,10 @@ together-discards launch t marks runs low g =
 
 -- Where the judge refuses nothing, it says yes exactly when the runs follow one another in time, none is empty, and list and runs together are
 -- a running.
-table-sound : (launch : ℕ) (t : Table) (marks starts ends tasks : List ℕ) → judgeTable launch t marks starts ends tasks .number ≡ 0
-    → judgeTable launch t marks starts ends tasks .yes ≡ verdict launch t marks (runsOf starts ends tasks)
+table-sound : (launch : ℕ) (t : Table) (marks : List ℕ) (runs : List Run) → judgeTable launch t marks runs .number ≡ 0
+    → judgeTable launch t marks runs .yes ≡ verdict launch t marks runs
 unfolding judgeTable judgeBy verdict
-table-sound launch t marks starts ends tasks =
+table-sound launch t marks runs =
     cases (badLaunch launch)
     (λ d. rw d (λ z. absurd (omega arith)))
     (λ d.
@@ -284,21 +284,21 @@ table-sound launch t marks starts ends tasks =
     rw e
     (cases (ltb (firstBadMark marks (t .count)) (t .count))
     (λ f. rw f (λ z. absurd (omega arith)))
-    (λ f. rw f (cases (badColumns starts ends tasks) (λ g. rw g (λ z. absurd (omega arith))) (λ g. rw g (λ z. refl))))))))
+    (λ f. rw f (cases (tooMany runs) (λ g. rw g (λ z. absurd (omega arith))) (λ g. rw g (λ z. refl))))))))
 
 refused-nonzero : (a : Answer) → isAccepted a ≡ false → numberOf a ≡ 0 → ⊥
 refused-nonzero a e z = eqb-false (numberOf a) 0 (refused-number a e) z
 
-pub judge-sound : (launch : ℕ) (file marks starts ends tasks : List ℕ) → judged launch file marks starts ends tasks .number ≡ 0
-    → (judged launch file marks starts ends tasks .yes ≡ true) ↔ Acceptable launch file marks (runsOf starts ends tasks)
+pub judge-sound : (launch : ℕ) (file marks : List ℕ) (runs : List Run) → judged launch file marks runs .number ≡ 0
+    → (judged launch file marks runs .yes ≡ true) ↔ Acceptable launch file marks runs
 unfolding judged
-judge-sound launch file marks starts ends tasks =
+judge-sound launch file marks runs =
     cases (isAccepted (readAnswer file))
     (λ e.
     rw e
     (λ z.
-    let same = table-sound launch (tableIn file) marks starts ends tasks z in
-    let law = judge-verdict launch (tableIn file) marks (runsOf starts ends tasks) in (
+    let same = table-sound launch (tableIn file) marks runs z in
+    let law = judge-verdict launch (tableIn file) marks runs in (
       λ y. let f = law .0 (sym same ∙ y) in record { follow = f .1; nonempty = f .0; together = f .2 },
       λ f. same ∙ law .1 (f .nonempty, f .follow, f .together),
     )))

@@ -12,11 +12,10 @@ use Rattle.table.specs.Tables.{taskAt}
 use Rattle.table.specs.Reading.{tableIn}
 use Rattle.schedule.specs.declared.Run.{Run}
 use Rattle.schedule.specs.Jobs.{jobOf, jobAt}
-use Rattle.schedule.specs.Runs.{badColumns, startsOf, endsOf, tasksOf}
+use Rattle.schedule.specs.Runs.{tooMany}
 use Rattle.schedule.specs.Judging.{verdictBy, verdict, judgeBy, judgeTable, judged}
 use Rattle.schedule.specs.Shifting.{laterJob, laterRun, laterRuns}
 use Rattle.schedule.specs.Earlier.{earlierJobAt, earlierJudged}
-use Rattle.schedule.proofs.ColumnLaws.{columns-runs}
 use Rattle.schedule.proofs.ShiftLaws.{nonempty-shift, order-shift, known-shift, windows-shift, totals-shift}
 
 -- The job at a position lies later by the launch tick than with launch 0,
@@ -43,36 +42,14 @@ verdict-launch launch t marks runs =
       totals-shift launch (jobAt 0 t) marks (t .count) runs,
     )
 
--- runs later by some ticks have columns as long as the runs have
-columns-later : (c : ℕ) (runs : List Run)
-    → badColumns (startsOf (laterRuns c runs)) (endsOf (laterRuns c runs)) (tasksOf (laterRuns c runs)) ≡ badColumns (startsOf runs) (endsOf runs) (tasksOf runs)
-unfolding badColumns
-columns-later c runs =
-    rw (
-      length-map (laterRuns c runs) (λ run. run .start),
-      length-map (laterRuns c runs) (λ run. run .end),
-      length-map (laterRuns c runs) (λ run. run .task),
-      length-map runs (laterRun c),
-      length-map runs (λ run. run .start),
-      length-map runs (λ run. run .end),
-      length-map runs (λ run. run .task),
-    )
-
 -- So the judge's reply to them at an accepted launch tick is its reply to the runs with launch 0, refusals too.
 pub judge-launch : (launch : ℕ) (file marks : List ℕ) (runs : List Run) → badLaunch launch ≡ false
-    → judged launch file marks (startsOf (laterRuns launch runs)) (endsOf (laterRuns launch runs)) (tasksOf (laterRuns launch runs))
-    ≡ judged 0 file marks (startsOf runs) (endsOf runs) (tasksOf runs)
-unfolding judged judgeTable judgeBy verdict
+    → judged launch file marks (laterRuns launch runs) ≡ judged 0 file marks runs
+unfolding judged judgeTable judgeBy verdict tooMany
 judge-launch launch file marks runs low =
-    rw (
-      low,
-      columns-later launch runs,
-      columns-runs (laterRuns launch runs),
-      columns-runs runs,
-      verdict-launch launch (tableIn file) marks runs,
-    )
+    rw (low, length-map runs (laterRun launch), verdict-launch launch (tableIn file) marks runs)
 
 -- With launch 0 every earlier answer of the judge holds.
-pub judge-launch-0 : (file marks starts ends tasks : List ℕ) → judged 0 file marks starts ends tasks ≡ earlierJudged file marks starts ends tasks
+pub judge-launch-0 : (file marks : List ℕ) (runs : List Run) → judged 0 file marks runs ≡ earlierJudged file marks runs
 unfolding judged judgeTable earlierJudged
-judge-launch-0 file marks starts ends tasks = rw (fun-ext (job-launch-0 (tableIn file)))
+judge-launch-0 file marks runs = rw (fun-ext (job-launch-0 (tableIn file)))

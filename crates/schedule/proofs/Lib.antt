@@ -10,3 +10,7 @@ pub mod ColumnLaws
 pub mod JudgeFreedoms
 pub mod ShiftLaws
 pub mod LaunchLaws
+pub mod SearchLaws
+pub mod StretchLaws
+pub mod QueryLaws
+pub mod ManyRuns

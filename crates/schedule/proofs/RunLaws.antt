@@ -3,19 +3,17 @@ use Prim.Native.Nat.{ℕ, zero, suc, _+_, _-_, _≤_, _<_, min}
 use mathlib.Core.Path.{_≡_, refl}
 use mathlib.Core.Logic.{inl, inr}
 use mathlib.Core.List.{List, [], _∷_}
-use mathlib.Core.Bool.{true, false, not}
+use mathlib.Core.Bool.{true, false}
 use mathlib.Core.Option.{Option, none, some}
 use native.Mathlib.Omega.{arith}
 use lib.Dec.{leb, ltb, eqb}
-use borrow.Author.Tests.{leb-true, leb-false, ltb-true, ltb-false, le-leb, lt-leb, lt-ltb, le-ltb, eqb-true, not-false}
-use lib.ListN.{length}
-use Rattle.base.specs.Limits.{maxRuns}
-use Rattle.base.specs.Tests.{pick, and, or}
-use Rattle.base.proofs.TestLaws.{cases, and-left, and-right, or-left, or-right}
+use borrow.Author.Tests.{leb-true, leb-false, ltb-true, ltb-false, le-leb, lt-leb, lt-ltb, le-ltb, eqb-true}
+use Rattle.base.specs.Tests.{pick, and}
+use Rattle.base.proofs.TestLaws.{cases, and-left, and-right}
 use Rattle.schedule.specs.Ticks.{isTask, one, countBelow, ticksOf}
 use Rattle.base.specs.Members.{All, Any}
 use Rattle.schedule.specs.declared.Run.{Run}
-use Rattle.schedule.specs.Runs.{runHolds, ownerOf, badColumns}
+use Rattle.schedule.specs.Runs.{runHolds, ownerOf}
 use Rattle.schedule.specs.Judging.{noneEmpty, followFrom, totalOf}
 use Rattle.schedule.proofs.TickLaws.{count-none, count-split}
 
@@ -169,19 +167,3 @@ ends-count from (run ∷ runs) ne fo i a b h =
 pub run-ticks : (from : ℕ) (runs : List Run) → noneEmpty runs ≡ true → followFrom from runs ≡ true
     → (i a b : ℕ) → All (λ run. run .task ≡ i → (a ≤ run .start) × (run .end ≤ b)) runs → ticksOf (ownerOf runs) i a b ≡ totalOf runs i
 run-ticks from runs ne fo i a b h = omega (arith, ends-count from runs ne fo i a b h)
-
--- What columns that are not refused tell: few enough runs, and as many ends and tasks as starts.
-pub record Columns (starts ends tasks : List ℕ) : Type 0 where
-  pub few : length starts ≤ maxRuns
-  pub ends-are : length starts ≡ length ends
-  pub tasks-are : length starts ≡ length tasks
-
-pub columns-known : (starts ends tasks : List ℕ) → badColumns starts ends tasks ≡ false → Columns starts ends tasks
-unfolding badColumns
-columns-known starts ends tasks e =
-    let rest = or-right (ltb maxRuns (length starts)) (or (not (eqb (length starts) (length ends))) (not (eqb (length starts) (length tasks)))) e in
-    record {
-      few = ltb-false maxRuns (length starts) (or-left (ltb maxRuns (length starts)) (or (not (eqb (length starts) (length ends))) (not (eqb (length starts) (length tasks)))) e);
-      ends-are = eqb-true (length starts) (length ends) (not-false (eqb (length starts) (length ends)) (or-left (not (eqb (length starts) (length ends))) (not (eqb (length starts) (length tasks))) rest));
-      tasks-are = eqb-true (length starts) (length tasks) (not-false (eqb (length starts) (length tasks)) (or-right (not (eqb (length starts) (length ends))) (not (eqb (length starts) (length tasks))) rest));
-    }

@@ -25,7 +25,7 @@ use Rattle.schedule.specs.declared.Judged.{Judged}
 use Rattle.schedule.specs.Jobs.{noJob, jobOf, jobAt, workOf, counts}
 use Rattle.schedule.specs.Ticks.{countBelow}
 use Rattle.schedule.specs.declared.Run.{Run}
-use Rattle.schedule.specs.Runs.{badColumns, runsOf}
+use Rattle.schedule.specs.Runs.{tooMany}
 use Rattle.schedule.specs.Judging.{noneEmpty, followFrom, inOrder, knownTasks, inWindows, totalOf, exactTotals, verdictBy, verdict, keptCount, discardedCount, firstBadMark, judgeDeclined, judgeBy, judgeTable, judged, Acceptable}
 use Rattle.schedule.proofs.TickLaws.{count-same}
 use Rattle.schedule.proofs.JudgeLaws.{judge-sound}
@@ -105,52 +105,52 @@ discarded-same launch t marks job h =
     (λ k l. ap (λ (j : Job). and (counts j) (eqb (getD marks k 0) 0)) (h k l))
 
 -- the reply, test by test, in the order of the refusals
-module _ (launch : ℕ) (t : Table) (marks starts ends tasks : List ℕ) where
-  pub launch-refused : badLaunch launch ≡ true → judgeDeclined 14 0 ≡ judgeTable launch t marks starts ends tasks
+module _ (launch : ℕ) (t : Table) (marks : List ℕ) (runs : List Run) where
+  pub launch-refused : badLaunch launch ≡ true → judgeDeclined 14 0 ≡ judgeTable launch t marks runs
   unfolding judgeTable judgeBy verdict
   launch-refused e = rw e
 
   module _ (accepted : badLaunch launch ≡ false) where
-    pub length-refused : (length marks ≡ t .count → ⊥) → judgeDeclined 11 (t .count) ≡ judgeTable launch t marks starts ends tasks
+    pub length-refused : (length marks ≡ t .count → ⊥) → judgeDeclined 11 (t .count) ≡ judgeTable launch t marks runs
     unfolding judgeTable judgeBy verdict
     length-refused e = rw (accepted, ne-eqb (length marks) (t .count) e)
 
     module _ (long : length marks ≡ t .count) where
-      pub mark-refused : firstBadMark marks (t .count) < t .count → judgeDeclined 11 (firstBadMark marks (t .count)) ≡ judgeTable launch t marks starts ends tasks
+      pub mark-refused : firstBadMark marks (t .count) < t .count → judgeDeclined 11 (firstBadMark marks (t .count)) ≡ judgeTable launch t marks runs
       unfolding judgeTable judgeBy verdict
       mark-refused l = rw (accepted, eq-eqb (length marks) (t .count) long, lt-ltb (firstBadMark marks (t .count)) (t .count) l)
 
       module _ (good : t .count ≤ firstBadMark marks (t .count)) where
-        pub columns-refused : badColumns starts ends tasks ≡ true → judgeDeclined 13 0 ≡ judgeTable launch t marks starts ends tasks
+        pub runs-refused : tooMany runs ≡ true → judgeDeclined 13 0 ≡ judgeTable launch t marks runs
         unfolding judgeTable judgeBy verdict
-        columns-refused e = rw (accepted, eq-eqb (length marks) (t .count) long, le-ltb (firstBadMark marks (t .count)) (t .count) good, e)
+        runs-refused e = rw (accepted, eq-eqb (length marks) (t .count) long, le-ltb (firstBadMark marks (t .count)) (t .count) good, e)
 
-        module _ (columns : badColumns starts ends tasks ≡ false) where
-          pub says-yes : verdict launch t marks (runsOf starts ends tasks) ≡ true
-              → _≡_ {A = Judged} (record { number = 0; place = 0; yes = true; kept = keptCount t marks; discarded = discardedCount t marks }) (judgeTable launch t marks starts ends tasks)
+        module _ (few : tooMany runs ≡ false) where
+          pub says-yes : verdict launch t marks runs ≡ true
+              → _≡_ {A = Judged} (record { number = 0; place = 0; yes = true; kept = keptCount t marks; discarded = discardedCount t marks }) (judgeTable launch t marks runs)
           unfolding judgeTable judgeBy verdict
-          says-yes e = rw (accepted, eq-eqb (length marks) (t .count) long, le-ltb (firstBadMark marks (t .count)) (t .count) good, columns, e)
+          says-yes e = rw (accepted, eq-eqb (length marks) (t .count) long, le-ltb (firstBadMark marks (t .count)) (t .count) good, few, e)
 
-          pub says-no : verdict launch t marks (runsOf starts ends tasks) ≡ false
-              → _≡_ {A = Judged} (record { number = 0; place = 0; yes = false; kept = 0; discarded = 0 }) (judgeTable launch t marks starts ends tasks)
+          pub says-no : verdict launch t marks runs ≡ false
+              → _≡_ {A = Judged} (record { number = 0; place = 0; yes = false; kept = 0; discarded = 0 }) (judgeTable launch t marks runs)
           unfolding judgeTable judgeBy verdict
-          says-no e = rw (accepted, eq-eqb (length marks) (t .count) long, le-ltb (firstBadMark marks (t .count)) (t .count) good, columns, e)
+          says-no e = rw (accepted, eq-eqb (length marks) (t .count) long, le-ltb (firstBadMark marks (t .count)) (t .count) good, few, e)
 
 -- a refusal of reading is the judge's
-pub read-refused : (launch : ℕ) (file marks starts ends tasks : List ℕ) → isAccepted (readAnswer file) ≡ false
-    → judgeDeclined (numberOf (readAnswer file)) (placeOf (readAnswer file)) ≡ judged launch file marks starts ends tasks
+pub read-refused : (launch : ℕ) (file marks : List ℕ) (runs : List Run) → isAccepted (readAnswer file) ≡ false
+    → judgeDeclined (numberOf (readAnswer file)) (placeOf (readAnswer file)) ≡ judged launch file marks runs
 unfolding judged
-read-refused launch file marks starts ends tasks e = rw e
+read-refused launch file marks runs e = rw e
 
 -- on an accepted file the judge replies as on its table
-pub read-accepted : (launch : ℕ) (file marks starts ends tasks : List ℕ) → readAnswer file ≡ Accepted
-    → judgeTable launch (tableIn file) marks starts ends tasks ≡ judged launch file marks starts ends tasks
+pub read-accepted : (launch : ℕ) (file marks : List ℕ) (runs : List Run) → readAnswer file ≡ Accepted
+    → judgeTable launch (tableIn file) marks runs ≡ judged launch file marks runs
 unfolding judged
-read-accepted launch file marks starts ends tasks e = rw e
+read-accepted launch file marks runs e = rw e
 
 -- a reply that is the judge's is sound
-pub sound-of : (launch : ℕ) (file marks starts ends tasks : List ℕ) (r : Judged) → r ≡ judged launch file marks starts ends tasks
-    → r .number ≡ 0 → (r .yes ≡ true) ↔ Acceptable launch file marks (runsOf starts ends tasks)
-sound-of launch file marks starts ends tasks r e z =
-    let law = judge-sound launch file marks starts ends tasks (ap (λ (j : Judged). j .number) (sym e) ∙ z) in
+pub sound-of : (launch : ℕ) (file marks : List ℕ) (runs : List Run) (r : Judged) → r ≡ judged launch file marks runs
+    → r .number ≡ 0 → (r .yes ≡ true) ↔ Acceptable launch file marks runs
+sound-of launch file marks runs r e z =
+    let law = judge-sound launch file marks runs (ap (λ (j : Judged). j .number) (sym e) ∙ z) in
     (λ y. law .0 (ap (λ (j : Judged). j .yes) (sym e) ∙ y), λ f. ap (λ (j : Judged). j .yes) e ∙ law .1 f)

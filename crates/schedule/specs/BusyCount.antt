@@ -4,7 +4,7 @@ use mathlib.Core.List.{List, [], _∷_}
 use Rattle.base.specs.Tests.{pick}
 use Rattle.schedule.specs.declared.Busy.{Busy}
 use Rattle.schedule.specs.declared.Run.{Run}
-use Rattle.schedule.specs.Runs.{badColumns, runsOf}
+use Rattle.schedule.specs.Runs.{tooMany}
 
 -- the ticks that a run shares with the interval: from the later start to the earlier end, and none where that is not after the start
 unfoldable pub shared : ℕ → ℕ → Run → ℕ
@@ -16,7 +16,7 @@ busySum a b [] = 0
 busySum a b (run ∷ runs) = shared a b run + busySum a b runs
 
 -- the reply of the busy count: 13 only
-unfoldable pub busyReply : List ℕ → List ℕ → List ℕ → ℕ → ℕ → Busy
-busyReply starts ends tasks a b =
-    pick (badColumns starts ends tasks) (record { number = 13; place = 0; ticks = 0 })
-    (record { number = 0; place = 0; ticks = busySum a b (runsOf starts ends tasks) })
+unfoldable pub busyReply : List Run → ℕ → ℕ → Busy
+busyReply runs a b =
+    pick (tooMany runs) (record { number = 13; place = 0; ticks = 0 })
+    (record { number = 0; place = 0; ticks = busySum a b runs })

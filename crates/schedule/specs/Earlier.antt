@@ -10,6 +10,7 @@ use Rattle.table.specs.Answers.{numberOf, placeOf, isAccepted}
 use Rattle.table.specs.Reading.{tableIn, readAnswer}
 use Rattle.schedule.specs.declared.Job.{Job}
 use Rattle.schedule.specs.declared.Judged.{Judged}
+use Rattle.schedule.specs.declared.Run.{Run}
 use Rattle.schedule.specs.Judging.{judgeDeclined, judgeBy}
 
 -- the job at a position of a table
@@ -24,7 +25,7 @@ earlierJobAt t k =
     }
 
 -- the reply of judging: reading's refusals, then 11 and 13
-unfoldable pub earlierJudged : List ℕ → List ℕ → List ℕ → List ℕ → List ℕ → Judged
-earlierJudged file marks starts ends tasks =
-    pick (isAccepted (readAnswer file)) (judgeBy (earlierJobAt (tableIn file)) (tableIn file) marks starts ends tasks)
+unfoldable pub earlierJudged : List ℕ → List ℕ → List Run → Judged
+earlierJudged file marks runs =
+    pick (isAccepted (readAnswer file)) (judgeBy (earlierJobAt (tableIn file)) (tableIn file) marks runs)
     (judgeDeclined (numberOf (readAnswer file)) (placeOf (readAnswer file)))

@@ -18,7 +18,7 @@ use Rattle.schedule.specs.declared.Judged.{Judged}
 use Rattle.schedule.specs.Jobs.{jobAt, jobsOf, workOf}
 use Rattle.schedule.specs.Ticks.{countBelow}
 use Rattle.schedule.specs.declared.Run.{Run}
-use Rattle.schedule.specs.Runs.{Together, badColumns, runsOf}
+use Rattle.schedule.specs.Runs.{Together, tooMany}
 
 -- The five conditions of a yes, for the jobs of n positions.
 
@@ -84,21 +84,21 @@ judgeSays accepts kept discarded =
     record { number = 0; place = 0; yes = accepts; kept = pick accepts kept 0; discarded = pick accepts discarded 0 }
 
 -- what the judge replies on a table whose tasks are these jobs: 11, the length first, then 13, then the verdict
-unfoldable pub judgeBy : (ℕ → Job) → Table → List ℕ → List ℕ → List ℕ → List ℕ → Judged
-judgeBy job t marks starts ends tasks =
+unfoldable pub judgeBy : (ℕ → Job) → Table → List ℕ → List Run → Judged
+judgeBy job t marks runs =
     pick (not (eqb (length marks) (t .count))) (judgeDeclined 11 (t .count))
     (pick (ltb (firstBadMark marks (t .count)) (t .count)) (judgeDeclined 11 (firstBadMark marks (t .count)))
-    (pick (badColumns starts ends tasks) (judgeDeclined 13 0)
-    (judgeSays (verdictBy job (t .count) marks (runsOf starts ends tasks)) (keptCount t marks) (discardedCount t marks))))
+    (pick (tooMany runs) (judgeDeclined 13 0)
+    (judgeSays (verdictBy job (t .count) marks runs) (keptCount t marks) (discardedCount t marks))))
 
 -- what it replies on the table of an accepted file at a launch tick: 14 first
-unfoldable pub judgeTable : ℕ → Table → List ℕ → List ℕ → List ℕ → List ℕ → Judged
-judgeTable launch t marks starts ends tasks = pick (badLaunch launch) (judgeDeclined 14 0) (judgeBy (jobAt launch t) t marks starts ends tasks)
+unfoldable pub judgeTable : ℕ → Table → List ℕ → List Run → Judged
+judgeTable launch t marks runs = pick (badLaunch launch) (judgeDeclined 14 0) (judgeBy (jobAt launch t) t marks runs)
 
 -- the reply of judging: reading's refusals, then 14, 11 and 13
-unfoldable pub judged : ℕ → List ℕ → List ℕ → List ℕ → List ℕ → List ℕ → Judged
-judged launch file marks starts ends tasks =
-    pick (isAccepted (readAnswer file)) (judgeTable launch (tableIn file) marks starts ends tasks)
+unfoldable pub judged : ℕ → List ℕ → List ℕ → List Run → Judged
+judged launch file marks runs =
+    pick (isAccepted (readAnswer file)) (judgeTable launch (tableIn file) marks runs)
     (judgeDeclined (numberOf (readAnswer file)) (placeOf (readAnswer file)))
 
 -- what demand 2 asks of a keep list and runs that the judge accepts: the runs follow one another in time, none is empty, and list and runs together

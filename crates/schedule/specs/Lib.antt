@@ -4,6 +4,7 @@ pub mod Runnings
 pub mod Runs
 pub mod Judging
 pub mod BusyCount
+pub mod Queries
 pub mod Passing
 pub mod Shifting
 pub mod Earlier

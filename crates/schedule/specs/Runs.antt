@@ -1,13 +1,13 @@
--- Run lists, as three columns of numbers, and the owner of ticks that a run list describes.
+-- Run lists, the columns of numbers that a planner writes them in, and the owner of ticks that a run list describes.
 use Prim.Native.Nat.{ℕ}
 use mathlib.Core.Path.{_≡_}
 use mathlib.Core.List.{List, [], _∷_, map}
-use mathlib.Core.Bool.{Bool, not}
+use mathlib.Core.Bool.{Bool}
 use mathlib.Core.Option.{none, some}
-use lib.Dec.{leb, ltb, eqb}
+use lib.Dec.{leb, ltb}
 use lib.ListN.{length, getD}
 use Rattle.base.specs.Limits.{maxRuns}
-use Rattle.base.specs.Tests.{pick, and, or}
+use Rattle.base.specs.Tests.{pick, and}
 use Rattle.base.specs.Places.{places}
 use Rattle.schedule.specs.declared.Job.{Job}
 use Rattle.schedule.specs.declared.Run.{Run}
@@ -23,11 +23,11 @@ runOf start end task = record { start = start; end = end; task = task }
 abbrev pub noRun : Run
 noRun = runOf 0 0 0
 
--- more than 4,096 runs, or run columns of unequal length
-unfoldable pub badColumns : List ℕ → List ℕ → List ℕ → Bool
-badColumns starts ends tasks = or (ltb maxRuns (length starts)) (or (not (eqb (length starts) (length ends))) (not (eqb (length starts) (length tasks))))
+-- more than 4,096 runs: the cause of 13
+unfoldable pub tooMany : List Run → Bool
+tooMany runs = ltb maxRuns (length runs)
 
--- the run at an index of the columns, and the run list that they are
+-- the run at an index of columns of one length, and the run list that they are
 unfoldable pub runAt : List ℕ → List ℕ → List ℕ → ℕ → Run
 runAt starts ends tasks k = record { start = getD starts k 0; end = getD ends k 0; task = getD tasks k 0 }
 

@@ -3,13 +3,13 @@
 ghost use mathlib.Core.Path.{_≡_};
 ghost use Prim.Native.Nat.{ℕ, _≤_, _<_};
 ghost use lib.Dec.{ltb};
-ghost use Rattle.base.specs.Limits.{maxTasks, lastFrame, maxLaunch};
+ghost use Rattle.base.specs.Limits.{maxTasks, maxRuns, lastFrame, maxLaunch};
 ghost use Rattle.base.specs.Tests.{pick};
 ghost use Rattle.base.specs.Places.{places};
 ghost use Rattle.table.specs.Tables.{taskAt};
 ghost use Rattle.clock.specs.Clock.{LegalPeriod};
+ghost use Rattle.schedule.specs.Queries.{runsNumber, runsPlace, foundNumber, foundPlace, isFound, foundRun};
 ghost use Rattle.schedule.specs.Jobs.{noJob, jobOf, jobAt, windowTicks};
-ghost use Rattle.schedule.specs.Runs.{badColumns};
 use base::MAX_RUNS;
 use base::MAX_TASKS;
 use table::Table;
@@ -33,12 +33,21 @@ pub const NO_JOB: Job = Job {
     optional: 0,
 };
 
-// A run: its first tick, the tick after its last, and the task's position. Definitions speak of runs; code has them in three columns.
+// A run: its first tick, the tick after its last, and the task's position. The judge, the busy count and the queries are lent a list of them; a
+// planner writes them as three columns.
+#[repr(C)]
 pub struct Run {
     pub start: u32,
     pub end: u32,
     pub task: u32,
 }
+
+// A run of which every number is 0.
+pub const NO_RUN: Run = Run {
+    start: 0,
+    end: 0,
+    task: 0,
+};
 
 // The reply of judging: the refusal's number and place; or 0, the verdict, and with a yes the counts kept and discarded.
 #[repr(C)]
@@ -58,17 +67,108 @@ pub struct Busy {
     pub ticks: u64,
 }
 
-// More runs than the limit, or run columns of unequal length.
-pub fn bad_columns(starts: &[u32], ends: &[u32], tasks: &[u32]) -> bool
-    ensures { λ r. ⌜ r ≡ badColumns (now (starts .entry)) (now (ends .entry)) (now (tasks .entry)) ⌝ }
+// What the check of a run list answers, before anything is asked of it: it is accepted, or it has too many runs, or the run at an index is the first that
+// is out of order.
+pub enum RunsAnswer {
+    Accepted,
+    TooMany,
+    OutOfOrder(usize),
+}
+
+impl RunsAnswer {
+    // The number of the answer: 0, 13 or 15.
+    pub fn number(self) -> u32
+        ensures { λ r. ⌜ r ≡ runsNumber self ⌝ }
+    {
+        match self {
+            RunsAnswer::Accepted => 0,
+            RunsAnswer::TooMany => 13,
+            RunsAnswer::OutOfOrder(index) => 15,
+        }
+    }
+
+    // The place of the answer: of 15 the index.
+    pub fn place(self) -> usize
+        ensures { λ r. ⌜ r ≡ runsPlace self ⌝ }
+    {
+        match self {
+            RunsAnswer::Accepted => 0,
+            RunsAnswer::TooMany => 0,
+            RunsAnswer::OutOfOrder(index) => index,
+        }
+    }
+}
+
+// What a query for one run answers: the run, or that there is none; or what the check of the run list refuses.
+pub enum Found {
+    One(Run),
+    None,
+    TooMany,
+    OutOfOrder(usize),
+}
+
+impl Found {
+    // The number of the answer: 0, 13 or 15.
+    pub fn number(self) -> u32
+        ensures { λ r. ⌜ r ≡ foundNumber self ⌝ }
+    {
+        match self {
+            Found::One(run) => 0,
+            Found::None => 0,
+            Found::TooMany => 13,
+            Found::OutOfOrder(index) => 15,
+        }
+    }
+
+    // The place of the answer: of 15 the index.
+    pub fn place(self) -> usize
+        ensures { λ r. ⌜ r ≡ foundPlace self ⌝ }
+    {
+        match self {
+            Found::One(run) => 0,
+            Found::None => 0,
+            Found::TooMany => 0,
+            Found::OutOfOrder(index) => index,
+        }
+    }
+
+    // There is a run.
+    pub fn is_one(self) -> bool
+        ensures { λ r. ⌜ r ≡ isFound self ⌝ }
+    {
+        match self {
+            Found::One(run) => true,
+            Found::None => false,
+            Found::TooMany => false,
+            Found::OutOfOrder(index) => false,
+        }
+    }
+
+    // The run, which is 0 throughout where there is none.
+    pub fn run(self) -> Run
+        ensures { λ r. ⌜ r ≡ foundRun self ⌝ }
+    {
+        match self {
+            Found::One(run) => run,
+            Found::None => NO_RUN,
+            Found::TooMany => NO_RUN,
+            Found::OutOfOrder(index) => NO_RUN,
+        }
+    }
+}
+
+// A stretch of a run list: its first index and how many runs. Of an empty one both are 0.
+#[repr(C)]
+pub struct Stretch {
+    pub first: usize,
+    pub runs: usize,
+}
+
+// So many runs are more than the limit.
+pub fn too_many(runs: usize) -> bool
+    ensures { λ r. ⌜ r ≡ ltb maxRuns runs ⌝ }
 {
-    if MAX_RUNS < starts.len() {
-        return true;
-    }
-    if starts.len() != ends.len() {
-        return true;
-    }
-    starts.len() != tasks.len()
+    MAX_RUNS < runs
 }
 
 // The task at a position, in ticks of the exact frame clock from a launch tick on.

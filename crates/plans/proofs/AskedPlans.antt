@@ -1,0 +1,26 @@
+-- Plans and queries: the run list of every plan is accepted by the queries' check.
+use Prim.Native.Nat.{ℕ}
+use mathlib.Core.Path.{_≡_}
+use mathlib.Core.Bool.{true}
+use native.Mathlib.Omega.{arith}
+use lib.ListN.{length}
+use borrow.Author.Tests.{le-ltb}
+use Rattle.base.specs.Limits.{maxRuns}
+use Rattle.table.specs.declared.Table.{Table}
+use Rattle.table.specs.Writing.{Legal}
+use Rattle.table.proofs.FileLaws.{legal-count}
+use Rattle.schedule.specs.declared.RunsAnswer.the-variants as checked
+use Rattle.schedule.specs.Runs.{tooMany}
+use Rattle.schedule.specs.Queries.{runsAnswer}
+use Rattle.schedule.proofs.QueryLaws.{ordered-accepted}
+use Rattle.plans.specs.Planning.{mandatoryFit, planRuns}
+use Rattle.plans.proofs.PlanLaws.{plan-listed, plan-few}
+
+-- It has no more runs than a run list may have, none is empty, and none starts before the one before it ends. So a query of a plan is never
+-- refused, and where it answers that there is no run, there is none.
+pub plan-asked : (launch : ℕ) (t : Table) → Legal t → mandatoryFit launch t ≡ true → runsAnswer (planRuns launch t) ≡ checked.Accepted
+unfolding tooMany
+plan-asked launch t legal fit =
+    let listed = plan-listed launch t legal fit in
+    let few = le-ltb maxRuns (length (planRuns launch t)) (omega (arith, plan-few launch t legal fit, legal-count legal)) in
+    ordered-accepted (planRuns launch t) few (listed .nonempty, listed .ordered)

@@ -1,0 +1,271 @@
+-- What the check of a run list and the queries answer, in the words of the judge and of the ticks that a run holds.
+use Prim.Native.Nat.{ℕ, zero, suc, _+_, _≤_, _<_, max}
+use mathlib.Core.Path.{_≡_, refl, sym, ap, _∙_}
+use mathlib.Core.Logic.{_↔_, inl, inr}
+use mathlib.Core.List.{List, [], _∷_}
+use mathlib.Core.Bool.{Bool, true, false}
+use mathlib.Core.Option.{Option, none, some}
+use native.Mathlib.Omega.{arith}
+use native.Mathlib.Decide.{decLt}
+use lib.Dec.{leb, eqb}
+use lib.ListN.{length, getD, take, drop}
+use borrow.Author.Tests.{leb-true, leb-false, le-leb, eqb-true}
+use Rattle.base.specs.Lowest.{lowest}
+use Rattle.base.specs.Members.{All, Any}
+use Rattle.base.proofs.TestLaws.{cases, both-absurd, and-true, pick-same, pick-cases}
+use Rattle.base.proofs.LowestLaws.{before, passes}
+use Rattle.base.proofs.MemberLaws.{all-at, all-map}
+use Rattle.schedule.specs.declared.Run.{Run}
+use Rattle.schedule.specs.declared.RunsAnswer.{RunsAnswer}
+use Rattle.schedule.specs.declared.RunsAnswer.the-variants as checked
+use Rattle.schedule.specs.declared.Found.the-variants as found
+use Rattle.schedule.specs.declared.Stretch.{Stretch}
+use Rattle.schedule.specs.Runs.{noRun, tooMany, runHolds}
+use Rattle.schedule.specs.Judging.{noneEmpty, followFrom, inOrder}
+use Rattle.schedule.specs.Queries.{firstOutOfOrder, runsAnswer, firstRun, startsFrom, foundBy, runAtTick, runFromTick}
+use Rattle.schedule.specs.Queries.{touches, runsAccepted, touching, stretchOf, Unbroken}
+use Rattle.schedule.proofs.RunLaws.{run-holds, in-holds, first-follows, rest-follow}
+use Rattle.schedule.proofs.JudgeLaws.{nonempty-each}
+use Rattle.schedule.proofs.SearchLaws.{OrderedRuns, ordered-exactly, accepted-order, accepts, ends-before, first-some, first-none}
+use Rattle.schedule.proofs.StretchLaws.{touches-sides, touches-not, passing-none, all-indices, Stretched, stretched-unbroken, unbroken-runs}
+use Rattle.schedule.proofs.StretchLaws.{interval-stretched, empty-stretched, stretch-is, touching-refused, stretch-refused}
+
+-- The check.
+
+-- in order, each run ends before the next starts, and a list of which this holds is in order
+follow-index : (from : ℕ) (runs : List Run) → followFrom from runs ≡ true
+    → (k : ℕ) → suc k < length runs → getD runs k noRun .end ≤ getD runs (suc k) noRun .start
+follow-index from [] e k l = absurd (omega arith)
+follow-index from (run ∷ []) e k l = absurd (omega arith)
+follow-index from (run ∷ next ∷ runs) e zero l = first-follows (run .end) next runs (rest-follow from run (next ∷ runs) e)
+follow-index from (run ∷ next ∷ runs) e (suc k) l =
+    follow-index (run .end) (next ∷ runs) (rest-follow from run (next ∷ runs) e) k (omega arith)
+
+index-follow : (from : ℕ) (runs : List Run) → (0 < length runs → from ≤ getD runs 0 noRun .start)
+    → ((k : ℕ) → suc k < length runs → getD runs k noRun .end ≤ getD runs (suc k) noRun .start) → followFrom from runs ≡ true
+unfolding followFrom
+index-follow from [] f h = refl
+index-follow from (run ∷ runs) f h =
+    and-true (leb from (run .start)) (followFrom (run .end) runs) (le-leb from (run .start) (f (omega arith)))
+    (index-follow (run .end) runs (λ l. h 0 (omega arith)) (λ k l. h (suc k) (omega arith)))
+
+-- a list is ordered by index exactly where the judge's first two conditions hold
+judge-order : (runs : List Run) → OrderedRuns runs ↔ ((noneEmpty runs ≡ true) × (inOrder runs ≡ true))
+unfolding inOrder
+judge-order runs = (
+  λ o. (
+    nonempty-each runs .1 (all-indices (λ run. run .start < run .end) runs (o .nonempty)),
+    index-follow 0 runs (λ l. omega arith) (o .follow),
+  ),
+  λ h. record {
+    nonempty = λ k l. all-at (λ run. run .start < run .end) noRun runs k l (nonempty-each runs .0 (h .0));
+    follow = follow-index 0 runs (h .1);
+  },
+)
+
+-- so the check of 15 is these two conditions, said once more by index
+pub broken-exactly : (runs : List Run) → (firstOutOfOrder runs ≡ length runs) ↔ ((noneEmpty runs ≡ true) × (inOrder runs ≡ true))
+broken-exactly runs = (
+  λ e. judge-order runs .0 (ordered-exactly runs .0 e),
+  λ h. ordered-exactly runs .1 (judge-order runs .1 h),
+)
+
+-- they hold of every accepted list, and a list of which they hold is accepted, if its runs are not too many
+pub accepted-ordered : (runs : List Run) → runsAnswer runs ≡ checked.Accepted → (noneEmpty runs ≡ true) × (inOrder runs ≡ true)
+accepted-ordered runs h = judge-order runs .0 (accepted-order runs h)
+
+pub ordered-accepted : (runs : List Run) → tooMany runs ≡ false → (noneEmpty runs ≡ true) × (inOrder runs ≡ true) → runsAnswer runs ≡ checked.Accepted
+ordered-accepted runs few h = let e = broken-exactly runs .1 h in accepts runs few (omega arith)
+
+-- The first run that passes a test.
+
+-- one that is found is at an index, passes, and none before it does
+found-first : (test : Run → Bool) (runs : List Run) (run : Run) → firstRun test runs ≡ some run
+    → (k : ℕ) × (k < length runs) × (getD runs k noRun ≡ run) × (test run ≡ true) × ((j : ℕ) → j < k → test (getD runs j noRun) ≡ false)
+found-first test runs run e =
+    let at : ℕ → Bool = λ k. test (getD runs k noRun) in
+    let k = lowest at (length runs) in
+    elim (decLt k (length runs)) [
+      | yes l ↦
+          let here = first-some test runs k l (passes at (length runs) l) (before at (length runs)) in
+          let same : getD runs k noRun ≡ run = cc in
+          (k, l, same, rw same at (passes at (length runs) l), before at (length runs))
+      | no l ↦
+          let nowhere = first-none test runs (λ j m. before at (length runs) j (omega arith)) in
+          let z : _≡_ {A = ℕ} 0 1 = cc in
+          absurd (omega arith)
+    ]
+
+-- where none is found, none passes
+none-first : (test : Run → Bool) (runs : List Run) → firstRun test runs ≡ none → All (λ run. test run ≡ false) runs
+unfolding firstRun
+none-first test [] e = tt
+none-first test (run ∷ runs) e =
+    cases (test run)
+    (λ t. let q : some run ≡ none = rw t at e in let z : _≡_ {A = ℕ} 0 1 = cc in absurd (omega arith))
+    (λ t. (t, none-first test runs (rw t at e)))
+
+-- what an answer that is no refusal tells of the run found, or of none
+found-one : (answer : RunsAnswer) (o : Option Run) (run : Run) → foundBy answer o ≡ found.One run → o ≡ some run
+found-one checked.Accepted none run e = cc
+found-one checked.Accepted (some other) run e = cc
+found-one checked.TooMany o run e = cc
+found-one (checked.OutOfOrder index) o run e = cc
+
+found-none : (answer : RunsAnswer) (o : Option Run) → foundBy answer o ≡ found.None → o ≡ none
+found-none checked.Accepted none e = refl
+found-none checked.Accepted (some other) e = cc
+found-none checked.TooMany o e = cc
+found-none (checked.OutOfOrder index) o e = cc
+
+-- a run at an index is a member, and a member stands at an index
+at-member : (runs : List Run) (k : ℕ) (run : Run) → k < length runs → getD runs k noRun ≡ run → Any (λ other. other ≡ run) runs
+at-member [] k run l e = absurd (omega arith)
+at-member (other ∷ runs) zero run l e = inl e
+at-member (other ∷ runs) (suc k) run l e = inr (at-member runs k run (omega arith) e)
+
+member-at : (runs : List Run) (run : Run) → Any (λ other. other ≡ run) runs → (k : ℕ) × (k < length runs) × (getD runs k noRun ≡ run)
+member-at (other ∷ runs) run (inl e) = (0, omega arith, e)
+member-at (other ∷ runs) run (inr m) = let r = member-at runs run m in let l = r .1 in (suc (r .0), omega arith, r .2)
+
+-- The run that holds a tick.
+
+-- in order, two runs that hold a tick are one
+pub at-most-one : (runs : List Run) → noneEmpty runs ≡ true → inOrder runs ≡ true → (tick i k : ℕ) → i < length runs → k < length runs
+    → runHolds (getD runs i noRun) tick ≡ true → runHolds (getD runs k noRun) tick ≡ true → i ≡ k
+at-most-one runs ne io tick i k l m e f =
+    let o = judge-order runs .1 (ne, io) in
+    let p = run-holds (getD runs i noRun) tick e in
+    let q = run-holds (getD runs k noRun) tick f in
+    elim (decLt i k) [
+      | yes s ↦ absurd (omega (arith, ends-before runs o i k s m))
+      | no s ↦ elim (decLt k i) [ yes r ↦ absurd (omega (arith, ends-before runs o k i r l)) | no r ↦ omega arith ]
+    ]
+
+-- the run that is answered is a member that holds the tick,
+pub found-holds : (runs : List Run) (tick : ℕ) (run : Run) → runAtTick runs tick ≡ found.One run
+    → (runHolds run tick ≡ true) × Any (λ other. other ≡ run) runs
+unfolding runAtTick
+found-holds runs tick run e =
+    let holds : Run → Bool = λ other. runHolds other tick in
+    let f = found-first holds runs run (found-one (runsAnswer runs) (firstRun holds runs) run e) in
+    (f .3, at-member runs (f .0) run (f .1) (f .2))
+
+-- where none is answered, none holds it,
+pub none-holds : (runs : List Run) (tick : ℕ) → runAtTick runs tick ≡ found.None → All (λ run. runHolds run tick ≡ false) runs
+unfolding runAtTick
+none-holds runs tick e =
+    let holds : Run → Bool = λ run. runHolds run tick in
+    none-first holds runs (found-none (runsAnswer runs) (firstRun holds runs) e)
+
+-- and of an accepted list every member that holds the tick is the run that is answered
+pub at-only : (runs : List Run) (tick : ℕ) (run : Run) → runsAnswer runs ≡ checked.Accepted → Any (λ other. other ≡ run) runs
+    → runHolds run tick ≡ true → runAtTick runs tick ≡ found.One run
+unfolding runAtTick
+at-only runs tick run accepted m e =
+    let order = accepted-ordered runs accepted in
+    let r = member-at runs run m in
+    let k = r .0 in
+    let here : runHolds (getD runs k noRun) tick ≡ true = rw (r .2) e in
+    let alone : (j : ℕ) → j < k → runHolds (getD runs j noRun) tick ≡ false =
+    λ j l.
+    let in-list = r .1 in
+    cases (runHolds (getD runs j noRun) tick)
+    (λ t. absurd (omega (arith, at-most-one runs (order .0) (order .1) tick j k (omega arith) in-list t here)))
+    (λ t. t) in
+    rw (accepted, first-some (λ other. runHolds other tick) runs k (r .1) here alone) (ap found.One (r .2))
+
+-- The first run that starts at a tick or after it.
+
+-- it is at an index, and every run before it starts before the tick
+pub from-first : (runs : List Run) (tick : ℕ) (run : Run) → runFromTick runs tick ≡ found.One run
+    → (k : ℕ) × (k < length runs) × (getD runs k noRun ≡ run) × (tick ≤ run .start) × ((j : ℕ) → j < k → getD runs j noRun .start < tick)
+unfolding runFromTick
+from-first runs tick run e =
+    let f = found-first (startsFrom tick) runs run (found-one (runsAnswer runs) (firstRun (startsFrom tick) runs) run e) in
+    (f .0, f .1, f .2, leb-true tick (run .start) (f .3), λ j l. leb-false tick (getD runs j noRun .start) (f .4 j l))
+
+-- where none is answered, every run starts before the tick
+pub from-none : (runs : List Run) (tick : ℕ) → runFromTick runs tick ≡ found.None → All (λ run. run .start < tick) runs
+unfolding runFromTick
+from-none runs tick e =
+    all-map (λ run. startsFrom tick run ≡ false) (λ run. run .start < tick) runs (λ run f. leb-false tick (run .start) f)
+    (none-first (startsFrom tick) runs (found-none (runsAnswer runs) (firstRun (startsFrom tick) runs) e))
+
+-- The runs that share a tick with an interval.
+
+-- a run does exactly where some tick of the interval is one that it holds
+pub touches-exactly : (a b : ℕ) (run : Run) → (touches a b run ≡ true) ↔ ((tick : ℕ) × (a ≤ tick) × (tick < b) × (runHolds run tick ≡ true))
+touches-exactly a b run = (
+  λ e.
+      let s = touches-sides a b run .0 e in
+      (max (run .start) a, omega arith, omega arith, in-holds run (max (run .start) a) (omega arith) (omega arith)),
+  λ t.
+      let from = t .1 in
+      let to = t .2 in
+      let held = run-holds run (t .0) (t .3) in
+      touches-sides a b run .1 (omega arith),
+)
+
+-- with an empty interval none does, and the query finds none
+pub touches-none : (a b : ℕ) (run : Run) → b ≤ a → touches a b run ≡ false
+touches-none a b run h = touches-not a b run (λ l s e. omega arith)
+
+pub touching-none : (runs : List Run) (a b : ℕ) → b ≤ a → touching runs a b ≡ []
+unfolding touching
+touching-none runs a b h =
+    rw (passing-none (touches a b) runs (all-indices (λ run. touches a b run ≡ false) runs (λ k l. touches-none a b (getD runs k noRun) h)))
+    (pick-same (runsAccepted (runsAnswer runs)) [])
+
+-- of an accepted list they stand at indices without a gap
+stands : (runs : List Run) (a b : ℕ) → runsAnswer runs ≡ checked.Accepted → (first : ℕ) × (count : ℕ) × Stretched (touches a b) runs first count
+stands runs a b accepted =
+    elim (decLt a b) [
+      | yes h ↦ (_, _, interval-stretched runs a b accepted h)
+      | no h ↦ (0, 0, empty-stretched runs a b (omega arith))
+    ]
+
+-- where they stand is the part of the list that they are
+touching-part : (runs : List Run) (a b first count : ℕ) → runsAnswer runs ≡ checked.Accepted → Stretched (touches a b) runs first count
+    → touching runs a b ≡ take count (drop first runs)
+unfolding touching
+touching-part runs a b first count accepted s =
+    rw accepted
+    (unbroken-runs (touches a b) runs (take count (drop first runs)) (stretched-unbroken (touches a b) runs first count s))
+
+-- so they are one unbroken part of it, nothing left out and nothing added
+pub touching-unbroken : (runs : List Run) (a b : ℕ) → runsAnswer runs ≡ checked.Accepted → Unbroken (touches a b) runs (touching runs a b)
+touching-unbroken runs a b accepted =
+    let s = stands runs a b accepted in
+    rw (touching-part runs a b (s .0) (s .1) accepted (s .2)) (stretched-unbroken (touches a b) runs (s .0) (s .1) (s .2))
+
+-- the one answer that is accepted
+accepted-is : (answer : RunsAnswer) → runsAccepted answer ≡ true → answer ≡ checked.Accepted
+accepted-is checked.Accepted e = refl
+accepted-is checked.TooMany e = both-absurd false e refl
+accepted-is (checked.OutOfOrder index) e = both-absurd false e refl
+
+-- the stretch that the query answers is empty where there are none, and else where they stand
+stretch-cases : (runs : List Run) (a b : ℕ) (P : Stretch → Type 0) → (touching runs a b ≡ [] → P (record { first = 0; runs = 0 }))
+    → ((first count : ℕ) → touching runs a b ≡ take count (drop first runs) → first + count ≤ length runs
+    → P (record { first = first; runs = count }))
+    → P (stretchOf runs a b)
+stretch-cases runs a b P f g =
+    cases (runsAccepted (runsAnswer runs))
+    (λ e.
+    let accepted = accepted-is (runsAnswer runs) e in
+    let s = stands runs a b accepted in
+    let part = touching-part runs a b (s .0) (s .1) accepted (s .2) in
+    rw (stretch-is runs a b (s .0) (s .1) accepted (s .2))
+    (pick-cases P (eqb (s .1) 0)
+    (λ z. f (part ∙ ap (λ n. take n (drop (s .0) runs)) (eqb-true (s .1) 0 z)))
+    (λ z. g (s .0) (s .1) part (s .2 .within))))
+    (λ e. rw (stretch-refused runs a b e) (f (touching-refused runs a b e)))
+
+-- so of any list it is the part of the runs that share a tick with the interval, and lies within the list
+pub stretch-part : (runs : List Run) (a b : ℕ) → take (stretchOf runs a b .runs) (drop (stretchOf runs a b .first) runs) ≡ touching runs a b
+stretch-part runs a b =
+    stretch-cases runs a b (λ s. take (s .runs) (drop (s .first) runs) ≡ touching runs a b) (λ e. sym e) (λ first count e l. sym e)
+
+pub stretch-within : (runs : List Run) (a b : ℕ) → stretchOf runs a b .first + stretchOf runs a b .runs ≤ length runs
+stretch-within runs a b = stretch-cases runs a b (λ s. s .first + s .runs ≤ length runs) (λ e. omega arith) (λ first count e l. l)

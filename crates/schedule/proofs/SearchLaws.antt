@@ -1,0 +1,230 @@
+-- Laws of run lists by index, on which the code of the queries rests: what the check of a list tells of each index, and at which indices
+-- the runs stand that a query for one run answers.
+use Prim.Native.Nat.{ℕ, zero, suc, _+_, _≤_, _<_}
+use mathlib.Core.Path.{_≡_, refl, ap}
+use mathlib.Core.Logic.{_↔_}
+use mathlib.Core.List.{List, [], _∷_}
+use mathlib.Core.Bool.{Bool, true, false, not}
+use mathlib.Core.Option.{Option, none, some}
+use native.Mathlib.Omega.{arith}
+use native.Mathlib.Decide.{decLt, le-ind}
+use lib.Dec.{leb, ltb}
+use lib.ListN.{length, getD}
+use borrow.Author.Tests.{ltb-true, ltb-false, leb-true, leb-false, lt-ltb, le-ltb, le-leb, lt-leb, not-false}
+use Rattle.base.specs.Lowest.{lowest}
+use Rattle.base.proofs.TestLaws.{cases, both-absurd, or-false, or-left, or-right}
+use Rattle.base.proofs.LowestLaws.{before, passes, none-passes, lowest-bound}
+use Rattle.schedule.specs.declared.Run.{Run}
+use Rattle.schedule.specs.declared.RunsAnswer.{RunsAnswer}
+use Rattle.schedule.specs.declared.RunsAnswer.the-variants as checked
+use Rattle.schedule.specs.declared.Found.the-variants as found
+use Rattle.schedule.specs.Runs.{noRun, tooMany, runHolds}
+use Rattle.schedule.specs.Queries.{previousEnd, outOfOrder, firstOutOfOrder, runsAnswer, firstRun, foundBy, runAtTick, runFromTick, startsFrom}
+use Rattle.schedule.specs.Queries.{runsAccepted}
+use Rattle.schedule.proofs.RunLaws.{in-holds, before-holds, after-holds}
+
+-- The check of a run list.
+
+-- too many runs are refused first, whatever they are
+pub many-refused : (runs : List Run) → tooMany runs ≡ true → runsAnswer runs ≡ checked.TooMany
+unfolding runsAnswer
+many-refused runs e = rw e
+
+-- then the first index that is out of order
+pub order-refused : (runs : List Run) → tooMany runs ≡ false → firstOutOfOrder runs < length runs
+    → runsAnswer runs ≡ checked.OutOfOrder (firstOutOfOrder runs)
+unfolding runsAnswer
+order-refused runs e l = rw (e, lt-ltb (firstOutOfOrder runs) (length runs) l)
+
+-- and where no index is, the list is accepted
+pub accepts : (runs : List Run) → tooMany runs ≡ false → length runs ≤ firstOutOfOrder runs → runsAnswer runs ≡ checked.Accepted
+unfolding runsAnswer
+accepts runs e l = rw (e, le-ltb (firstOutOfOrder runs) (length runs) l)
+
+-- only there
+pub accepted-known : (runs : List Run) → runsAnswer runs ≡ checked.Accepted → (tooMany runs ≡ false) × (firstOutOfOrder runs ≡ length runs)
+unfolding firstOutOfOrder
+accepted-known runs h =
+    cases (tooMany runs)
+    (λ e. let q = many-refused runs e in let z : _≡_ {A = ℕ} 0 1 = cc in absurd (omega arith))
+    (λ e.
+    elim (decLt (firstOutOfOrder runs) (length runs)) [
+      | yes l ↦ let q = order-refused runs e l in let z : _≡_ {A = ℕ} 0 1 = cc in absurd (omega arith)
+      | no l ↦ (e, omega (arith, lowest-bound (outOfOrder runs) (length runs)))
+    ])
+
+-- Each run of a list starts below its end, and none starts before the one listed before it ends.
+pub record OrderedRuns (runs : List Run) : Type 0 where
+  pub nonempty : (k : ℕ) → k < length runs → getD runs k noRun .start < getD runs k noRun .end
+  pub follow : (k : ℕ) → suc k < length runs → getD runs k noRun .end ≤ getD runs (suc k) noRun .start
+
+-- an index is not out of order exactly where this holds there
+in-place : (runs : List Run) (k : ℕ)
+    → (outOfOrder runs k ≡ false) ↔ ((getD runs k noRun .start < getD runs k noRun .end) × (previousEnd runs k ≤ getD runs k noRun .start))
+unfolding outOfOrder
+in-place runs k =
+    let start = getD runs k noRun .start in
+    let end = getD runs k noRun .end in
+    let late = not (ltb start end) in
+    let early = ltb start (previousEnd runs k) in (
+      λ e. (
+        ltb-true start end (not-false (ltb start end) (or-left late early e)),
+        ltb-false start (previousEnd runs k) (or-right late early e),
+      ),
+      λ h. or-false late early (ap not (lt-ltb start end (h .0))) (le-ltb start (previousEnd runs k) (h .1)),
+    )
+
+-- so no index is out of order exactly where the list is ordered: the first start has no end before it
+pub ordered-exactly : (runs : List Run) → (firstOutOfOrder runs ≡ length runs) ↔ OrderedRuns runs
+unfolding firstOutOfOrder
+ordered-exactly runs = (
+  λ e.
+      let each : (k : ℕ) → k < length runs → (getD runs k noRun .start < getD runs k noRun .end) × (previousEnd runs k ≤ getD runs k noRun .start)
+      = λ k l. in-place runs k .0 (before (outOfOrder runs) (length runs) k (omega arith)) in
+      record { nonempty = λ k l. each k l .0; follow = λ k l. each (suc k) l .1 },
+  λ o. none-passes (outOfOrder runs) (length runs) (λ k l. in-place runs k .1 (o .nonempty k l, previous-ended runs o k l)),
+)
+  where
+    previous-ended : (runs : List Run) → OrderedRuns runs → (k : ℕ) → k < length runs → previousEnd runs k ≤ getD runs k noRun .start
+    previous-ended runs o zero l = omega arith
+    previous-ended runs o (suc k) l = o .follow k l
+
+-- an accepted list is ordered
+pub accepted-order : (runs : List Run) → runsAnswer runs ≡ checked.Accepted → OrderedRuns runs
+accepted-order runs h = ordered-exactly runs .0 (accepted-known runs h .1)
+
+-- Of an ordered list starts and ends do not fall with the index.
+module _ (runs : List Run) (o : OrderedRuns runs) where
+  -- a run ends by the start of every later one
+  pub ends-before : (i k : ℕ) → i < k → k < length runs → getD runs i noRun .end ≤ getD runs k noRun .start
+  ends-before i k l =
+      le-ind (λ m. m < length runs → getD runs i noRun .end ≤ getD runs m noRun .start)
+      (λ h. o .follow i h)
+      (λ m g f h. omega (arith, f (omega arith), o .nonempty m (omega arith), o .follow m h))
+      k l
+
+  -- so starts do not fall,
+  pub starts-rise : (i k : ℕ) → i ≤ k → k < length runs → getD runs i noRun .start ≤ getD runs k noRun .start
+  starts-rise i k l h =
+      elim (decLt i k) [
+        | yes m ↦ omega (arith, o .nonempty i (omega arith), ends-before i k m h)
+        | no m ↦ let e : i ≡ k = omega arith in rw e (omega arith)
+      ]
+
+  -- and ends do not
+  pub ends-rise : (i k : ℕ) → i ≤ k → k < length runs → getD runs i noRun .end ≤ getD runs k noRun .end
+  ends-rise i k l h =
+      elim (decLt i k) [
+        | yes m ↦ omega (arith, ends-before i k m h, o .nonempty k h)
+        | no m ↦ let e : i ≡ k = omega arith in rw e (omega arith)
+      ]
+
+-- The first run that passes a test.
+
+-- it stands at the lowest index that passes,
+pub first-some : (test : Run → Bool) (runs : List Run) (k : ℕ) → k < length runs → test (getD runs k noRun) ≡ true
+    → ((j : ℕ) → j < k → test (getD runs j noRun) ≡ false) → firstRun test runs ≡ some (getD runs k noRun)
+unfolding firstRun
+first-some test [] k l e h = absurd (omega arith)
+first-some test (run ∷ runs) zero l e h = rw e
+first-some test (run ∷ runs) (suc k) l e h = rw (h 0 (omega arith)) (first-some test runs k (omega arith) e (λ j m. h (suc j) (omega arith)))
+
+-- and there is none where no index passes
+pub first-none : (test : Run → Bool) (runs : List Run) → ((k : ℕ) → k < length runs → test (getD runs k noRun) ≡ false) → firstRun test runs ≡ none
+unfolding firstRun
+first-none test [] h = refl
+first-none test (run ∷ runs) h = rw (h 0 (omega arith)) (first-none test runs (λ k l. h (suc k) (omega arith)))
+
+-- where the check refuses the list, the two queries for one run answer with the refusal alone
+refused-found : (answer : RunsAnswer) (run : Option Run) → runsAccepted answer ≡ false → foundBy answer run ≡ foundBy answer none
+refused-found checked.Accepted run e = both-absurd true refl e
+refused-found checked.TooMany run e = refl
+refused-found (checked.OutOfOrder index) run e = refl
+
+pub at-refused : (runs : List Run) (tick : ℕ) → runsAccepted (runsAnswer runs) ≡ false → runAtTick runs tick ≡ foundBy (runsAnswer runs) none
+unfolding runAtTick
+at-refused runs tick e = refused-found (runsAnswer runs) (firstRun (λ run. runHolds run tick) runs) e
+
+pub from-refused : (runs : List Run) (tick : ℕ) → runsAccepted (runsAnswer runs) ≡ false → runFromTick runs tick ≡ foundBy (runsAnswer runs) none
+unfolding runFromTick
+from-refused runs tick e = refused-found (runsAnswer runs) (firstRun (startsFrom tick) runs) e
+
+-- the run at an index ends after a tick; it starts at a tick or after it
+abbrev pub endsAfter : List Run → ℕ → ℕ → Bool
+endsAfter runs tick k = leb (tick + 1) (getD runs k noRun .end)
+
+abbrev pub startsFromAt : List Run → ℕ → ℕ → Bool
+startsFromAt runs tick k = startsFrom tick (getD runs k noRun)
+
+-- the first index whose run does, and the number of runs where none does
+abbrev pub firstEnding : List Run → ℕ → ℕ
+firstEnding runs tick = lowest (endsAfter runs tick) (length runs)
+
+abbrev pub firstStarting : List Run → ℕ → ℕ
+firstStarting runs tick = lowest (startsFromAt runs tick) (length runs)
+
+module _ (runs : List Run) (tick : ℕ) where
+  -- the runs before it do not, and its run does
+  pub ended-before : (k : ℕ) → k < firstEnding runs tick → getD runs k noRun .end ≤ tick
+  ended-before k l = omega (arith, leb-false (tick + 1) (getD runs k noRun .end) (before (endsAfter runs tick) (length runs) k l))
+
+  pub ending-after : firstEnding runs tick < length runs → tick < getD runs (firstEnding runs tick) noRun .end
+  ending-after l = omega (arith, leb-true (tick + 1) (getD runs (firstEnding runs tick) noRun .end) (passes (endsAfter runs tick) (length runs) l))
+
+  pub started-before : (k : ℕ) → k < firstStarting runs tick → getD runs k noRun .start < tick
+  started-before k l = leb-false tick (getD runs k noRun .start) (before (startsFromAt runs tick) (length runs) k l)
+
+  pub starting-from : firstStarting runs tick < length runs → tick ≤ getD runs (firstStarting runs tick) noRun .start
+  starting-from l = leb-true tick (getD runs (firstStarting runs tick) noRun .start) (passes (startsFromAt runs tick) (length runs) l)
+
+  -- The answers to the two queries for one run, on an accepted list.
+  module _ (accepted : runsAnswer runs ≡ checked.Accepted) where
+    -- the run that holds the tick is the first that ends after it, where it has begun,
+    pub at-found : firstEnding runs tick < length runs → getD runs (firstEnding runs tick) noRun .start ≤ tick
+        → runAtTick runs tick ≡ found.One (getD runs (firstEnding runs tick) noRun)
+    unfolding runAtTick
+    at-found l h =
+        let i = firstEnding runs tick in
+        rw (
+          accepted,
+          first-some (λ run. runHolds run tick) runs i l (in-holds (getD runs i noRun) tick h (ending-after l))
+              (λ j m. after-holds (getD runs j noRun) tick (ended-before j m)),
+        )
+
+    -- none holds it where every run has ended,
+    pub at-ended : length runs ≤ firstEnding runs tick → runAtTick runs tick ≡ found.None
+    unfolding runAtTick
+    at-ended h =
+        rw (accepted, first-none (λ run. runHolds run tick) runs (λ k l. after-holds (getD runs k noRun) tick (ended-before k (omega arith))))
+
+    -- or where the first that ends after the tick has not begun
+    pub at-not-begun : tick < getD runs (firstEnding runs tick) noRun .start → runAtTick runs tick ≡ found.None
+    unfolding runAtTick
+    at-not-begun h =
+        rw (
+          accepted,
+          first-none (λ run. runHolds run tick) runs (λ k l.
+              elim (decLt k (firstEnding runs tick)) [
+                | yes m ↦ after-holds (getD runs k noRun) tick (ended-before k m)
+                | no m ↦
+                    before-holds (getD runs k noRun) tick
+                    (omega (arith, starts-rise runs (accepted-order runs accepted) (firstEnding runs tick) k (omega arith) l))
+              ]),
+        )
+
+    -- the first run that starts at the tick or after it, where there is one
+    pub from-found : firstStarting runs tick < length runs → runFromTick runs tick ≡ found.One (getD runs (firstStarting runs tick) noRun)
+    unfolding runFromTick
+    from-found l =
+        let i = firstStarting runs tick in
+        rw (
+          accepted,
+          first-some (startsFrom tick) runs i l (le-leb tick (getD runs i noRun .start) (starting-from l))
+              (λ j m. lt-leb tick (getD runs j noRun .start) (started-before j m)),
+        )
+
+    -- and none where every run starts before the tick
+    pub from-started : length runs ≤ firstStarting runs tick → runFromTick runs tick ≡ found.None
+    unfolding runFromTick
+    from-started h =
+        rw (accepted, first-none (startsFrom tick) runs (λ k l. lt-leb tick (getD runs k noRun .start) (started-before k (omega arith))))

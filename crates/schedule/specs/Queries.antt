@@ -1,0 +1,142 @@
+-- Queries of a run list, whoever made it: the run at a tick, the first run that starts at or after a tick, and the runs that share a tick with an interval.
+use Prim.Native.Nat.{ℕ, zero, suc}
+use mathlib.Core.List.{List, [], _∷_, _++_}
+use mathlib.Core.Path.{_≡_}
+use mathlib.Core.Bool.{Bool, true, false, not}
+use mathlib.Core.Option.{Option, none, some}
+use lib.Dec.{leb, ltb, eqb}
+use lib.ListN.{length, getD}
+use Rattle.base.specs.Tests.{pick, or}
+use Rattle.base.specs.Lowest.{lowest}
+use Rattle.base.specs.Members.{All}
+use Rattle.schedule.specs.declared.Run.{Run}
+use Rattle.schedule.specs.declared.RunsAnswer.{RunsAnswer}
+use Rattle.schedule.specs.declared.RunsAnswer.the-variants as checked
+use Rattle.schedule.specs.declared.Found.{Found}
+use Rattle.schedule.specs.declared.Found.the-variants as found
+use Rattle.schedule.specs.declared.Stretch.{Stretch}
+use Rattle.schedule.specs.Runs.{noRun, tooMany, runHolds}
+use Rattle.schedule.specs.BusyCount.{shared}
+
+-- Refusals: 13, then 15 with the index of the first run whose start is not below its end or lies before the previous end.
+
+-- the end of the run before index k; before the first run there is none, and no start lies before tick 0
+abbrev pub previousEnd : List Run → ℕ → ℕ
+previousEnd runs zero = 0
+previousEnd runs (suc k) = getD runs k noRun .end
+
+-- the start of the run at index k is not below its end, or lies before the previous end
+unfoldable pub outOfOrder : List Run → ℕ → Bool
+outOfOrder runs k =
+    or (not (ltb (getD runs k noRun .start) (getD runs k noRun .end))) (ltb (getD runs k noRun .start) (previousEnd runs k))
+
+-- the index of the first run that is out of order, and the number of runs where none is
+unfoldable pub firstOutOfOrder : List Run → ℕ
+firstOutOfOrder runs = lowest (outOfOrder runs) (length runs)
+
+-- what the check of a run list answers
+unfoldable pub runsAnswer : List Run → RunsAnswer
+runsAnswer runs =
+    pick (tooMany runs) checked.TooMany
+    (pick (ltb (firstOutOfOrder runs) (length runs)) (checked.OutOfOrder (firstOutOfOrder runs)) checked.Accepted)
+
+-- the number and the place of each of its cases
+abbrev pub runsNumber : RunsAnswer → ℕ
+runsNumber checked.Accepted = 0
+runsNumber checked.TooMany = 13
+runsNumber (checked.OutOfOrder index) = 15
+
+abbrev pub runsPlace : RunsAnswer → ℕ
+runsPlace checked.Accepted = 0
+runsPlace checked.TooMany = 0
+runsPlace (checked.OutOfOrder index) = index
+
+-- The two queries for one run.
+
+-- the first run of a list that passes a test, or none
+unfoldable pub firstRun : (Run → Bool) → List Run → Option Run
+firstRun test [] = none
+firstRun test (run ∷ runs) = pick (test run) (some run) (firstRun test runs)
+
+-- the run starts at the tick or after it
+abbrev pub startsFrom : ℕ → Run → Bool
+startsFrom tick run = leb tick (run .start)
+
+-- the answer, by what the check of the list answers: a refusal, or the run, or that there is none
+abbrev pub foundBy : RunsAnswer → Option Run → Found
+foundBy checked.Accepted none = found.None
+foundBy checked.Accepted (some run) = found.One run
+foundBy checked.TooMany run = found.TooMany
+foundBy (checked.OutOfOrder index) run = found.OutOfOrder index
+
+-- the run that holds the tick: in a list that is accepted there is at most one
+unfoldable pub runAtTick : List Run → ℕ → Found
+runAtTick runs tick = foundBy (runsAnswer runs) (firstRun (λ run. runHolds run tick) runs)
+
+-- the first in the list that starts at the tick or after it
+unfoldable pub runFromTick : List Run → ℕ → Found
+runFromTick runs tick = foundBy (runsAnswer runs) (firstRun (startsFrom tick) runs)
+
+-- the number, the place and the values of each of its cases: whether there is a run, and the run, which is 0 throughout where there is none
+abbrev pub foundNumber : Found → ℕ
+foundNumber (found.One run) = 0
+foundNumber found.None = 0
+foundNumber found.TooMany = 13
+foundNumber (found.OutOfOrder index) = 15
+
+abbrev pub foundPlace : Found → ℕ
+foundPlace (found.One run) = 0
+foundPlace found.None = 0
+foundPlace found.TooMany = 0
+foundPlace (found.OutOfOrder index) = index
+
+abbrev pub isFound : Found → Bool
+isFound (found.One run) = true
+isFound found.None = false
+isFound found.TooMany = false
+isFound (found.OutOfOrder index) = false
+
+abbrev pub foundRun : Found → Run
+foundRun (found.One run) = run
+foundRun found.None = noRun
+foundRun found.TooMany = noRun
+foundRun (found.OutOfOrder index) = noRun
+
+-- The query for an interval.
+
+-- the run shares a tick with the interval from a to b: the ticks that it shares are not none
+abbrev pub touches : ℕ → ℕ → Run → Bool
+touches a b run = ltb 0 (shared a b run)
+
+-- the runs of a list that pass a test, in their order
+unfoldable pub runsThat : (Run → Bool) → List Run → List Run
+runsThat test [] = []
+runsThat test (run ∷ runs) = pick (test run) (run ∷ runsThat test runs) (runsThat test runs)
+
+-- the check accepts the run list
+abbrev pub runsAccepted : RunsAnswer → Bool
+runsAccepted checked.Accepted = true
+runsAccepted checked.TooMany = false
+runsAccepted (checked.OutOfOrder index) = false
+
+-- the runs that share a tick with the interval, all of them and no other; none where the list is refused
+unfoldable pub touching : List Run → ℕ → ℕ → List Run
+touching runs a b = pick (runsAccepted (runsAnswer runs)) (runsThat (touches a b) runs) []
+
+-- where they stand in the list: the index of the first and how many they are; both are 0 where there is none
+unfoldable pub stretchOf : List Run → ℕ → ℕ → Stretch
+stretchOf runs a b =
+    pick (eqb (length (touching runs a b)) 0) (record { first = 0; runs = 0 })
+    (record { first = lowest (λ k. touches a b (getD runs k noRun)) (length runs); runs = length (touching runs a b) })
+
+-- a part of a list is one unbroken stretch of it: what stands before it and what stands behind it make up the rest, and none of the rest passes the test
+pub record Unbroken (test : Run → Bool) (runs part : List Run) : Type 0 where
+  pub before : List Run
+  pub behind : List Run
+  pub whole : runs ≡ before ++ (part ++ behind)
+  pub inside : All (λ run. test run ≡ true) part
+  pub left-out : All (λ run. test run ≡ false) before × All (λ run. test run ≡ false) behind
+
+-- the runs answered for an interval are one unbroken stretch of a list that is accepted, nothing left out and nothing added
+abbrev pub TouchingPart : ℕ → ℕ → List Run → List Run → Type 0
+TouchingPart a b runs part = runsAnswer runs ≡ checked.Accepted → Unbroken (touches a b) runs part
