@@ -1,7 +1,12 @@
 // The busy count of an interval (an entry point): over all runs, the ticks that the run shares with the interval.
 ghost use mathlib.Core.Path.{_≡_};
+ghost use lib.ListN.{length};
+ghost use Rattle.records.specs.RecordColumns.{HeldColumns, runsHeld};
+ghost use Rattle.schedule.specs.Runs.{runsOf};
 ghost use Rattle.schedule.specs.BusyCount.{shared, busyReply};
+use records::RunColumns;
 use schedule::Busy;
+use schedule::Run;
 
 // The ticks that the run from `start` to `end` shares with the interval from `a` to `b`.
 fn shared_ticks(start: u32, end: u32, a: u32, b: u32) -> u64
@@ -15,12 +20,12 @@ fn shared_ticks(start: u32, end: u32, a: u32, b: u32) -> u64
     0
 }
 
-// The busy count: columns of any content and length and any interval get the reply of document 01. The sum is meant for runs that do not
-// overlap, and is taken over any.
-pub fn busy(starts: &[u32], ends: &[u32], tasks: &[u32], a: u32, b: u32) -> Busy
-    ensures { λ r. ⌜ r ≡ busyReply (now (starts .entry)) (now (ends .entry)) (now (tasks .entry)) a b ⌝ }
+// The busy count over runs that stand in three columns of one length. The sum is meant for runs that do not overlap, and is taken over any.
+pub fn busy_columns(starts: &[u32], ends: &[u32], tasks: &[u32], a: u32, b: u32) -> Busy
+    requires { ⌜ (length (now starts) ≡ length (now ends)) × (length (now starts) ≡ length (now tasks)) ⌝ }
+    ensures { λ r. ⌜ r ≡ busyReply (runsOf (now (starts .entry)) (now (ends .entry)) (now (tasks .entry))) a b ⌝ }
 {
-    if schedule::bad_columns(starts, ends, tasks) {
+    if schedule::too_many(starts.len()) {
         return Busy {
             number: 13,
             place: 0,
@@ -38,4 +43,24 @@ pub fn busy(starts: &[u32], ends: &[u32], tasks: &[u32], a: u32, b: u32) -> Busy
         place: 0,
         ticks,
     }
+}
+
+// The busy count over runs that were copied into columns.
+pub fn busy_held(columns: RunColumns, a: u32, b: u32) -> Busy
+    requires { ⌜ HeldColumns columns ⌝ }
+    ensures { λ r. ⌜ r ≡ busyReply (runsHeld columns) a b ⌝ }
+{
+    let n = columns.count;
+    let starts = columns.starts;
+    let ends = columns.ends;
+    let tasks = columns.tasks;
+    busy_columns(&starts[..n], &ends[..n], &tasks[..n], a, b)
+}
+
+// The busy count: a run list of any content and length and any interval get the reply of document 01. The sum is meant for runs that do not overlap, and is
+// taken over any.
+pub fn busy(runs: &[Run], a: u32, b: u32) -> Busy
+    ensures { λ r. ⌜ r ≡ busyReply (now (runs .entry)) a b ⌝ }
+{
+    busy_held(records::columns_of(runs), a, b)
 }

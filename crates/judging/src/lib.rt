@@ -12,10 +12,13 @@ ghost use Rattle.schedule.specs.Jobs.{noJob, workOf, counts};
 ghost use Rattle.schedule.specs.Ticks.{countBelow};
 ghost use Rattle.schedule.specs.Runs.{runsOf};
 ghost use Rattle.schedule.specs.Judging.{firstBadMark, judgeDeclined, judgeTable, judged, Sound};
+ghost use Rattle.records.specs.RecordColumns.{HeldColumns, runsHeld};
 ghost use Rattle.schedule.specs.Passing.{runFits, Passed, verdictByPass};
 use base::MAX_TASKS;
+use records::RunColumns;
 use schedule::Job;
 use schedule::Judged;
+use schedule::Run;
 use table::Answer;
 use table::Table;
 
@@ -205,7 +208,8 @@ fn judge_table(
     tasks: &[u32],
 ) -> Judged
     requires { ⌜ Legal table ⌝ }
-    ensures { λ r. ⌜ r ≡ judgeTable launch table (now (marks .entry)) (now (starts .entry)) (now (ends .entry)) (now (tasks .entry)) ⌝ }
+    requires { ⌜ (length (now starts) ≡ length (now ends)) × (length (now starts) ≡ length (now tasks)) ⌝ }
+    ensures { λ r. ⌜ r ≡ judgeTable launch table (now (marks .entry)) (runsOf (now (starts .entry)) (now (ends .entry)) (now (tasks .entry))) ⌝ }
 {
     if clock::bad_launch(launch) {
         return declined(14, 0);
@@ -218,7 +222,7 @@ fn judge_table(
     if bad < count {
         return declined(11, bad);
     }
-    if schedule::bad_columns(starts, ends, tasks) {
+    if schedule::too_many(starts.len()) {
         return declined(13, 0);
     }
     let jobs = schedule::jobs_of(table, launch);
@@ -230,8 +234,8 @@ fn judge_table(
     says(false, 0, 0)
 }
 
-// Judging: any bytes, launch tick, marks and columns get the reply of documents 01 and 02.
-pub fn judge(
+// Judging runs that stand in three columns of one length.
+pub fn judge_columns(
     file: &[u8],
     launch: u32,
     marks: &[u8],
@@ -239,8 +243,8 @@ pub fn judge(
     ends: &[u32],
     tasks: &[u32],
 ) -> Judged
-    ensures reply { λ r. ⌜ r ≡ judged launch (now (file .entry)) (now (marks .entry)) (now (starts .entry)) (now (ends .entry)) (now (tasks .entry)) ⌝ }
-    ensures sound { λ r. ⌜ Sound launch (now (file .entry)) (now (marks .entry)) (runsOf (now (starts .entry)) (now (ends .entry)) (now (tasks .entry))) r ⌝ }
+    requires { ⌜ (length (now starts) ≡ length (now ends)) × (length (now starts) ≡ length (now tasks)) ⌝ }
+    ensures { λ r. ⌜ r ≡ judged launch (now (file .entry)) (now (marks .entry)) (runsOf (now (starts .entry)) (now (ends .entry)) (now (tasks .entry))) ⌝ }
 {
     let read = reading::read(file);
     let answer = read.answer;
@@ -249,4 +253,24 @@ pub fn judge(
     };
     let table = read.table;
     judge_table(table, launch, marks, starts, ends, tasks)
+}
+
+// Judging runs that were copied into columns.
+pub fn judge_held(file: &[u8], launch: u32, marks: &[u8], columns: RunColumns) -> Judged
+    requires { ⌜ HeldColumns columns ⌝ }
+    ensures { λ r. ⌜ r ≡ judged launch (now (file .entry)) (now (marks .entry)) (runsHeld columns) ⌝ }
+{
+    let n = columns.count;
+    let starts = columns.starts;
+    let ends = columns.ends;
+    let tasks = columns.tasks;
+    judge_columns(file, launch, marks, &starts[..n], &ends[..n], &tasks[..n])
+}
+
+// Judging: any bytes, launch tick, marks and run list get the reply of documents 01 and 02.
+pub fn judge(file: &[u8], launch: u32, marks: &[u8], runs: &[Run]) -> Judged
+    ensures reply { λ r. ⌜ r ≡ judged launch (now (file .entry)) (now (marks .entry)) (now (runs .entry)) ⌝ }
+    ensures sound { λ r. ⌜ Sound launch (now (file .entry)) (now (marks .entry)) (now (runs .entry)) r ⌝ }
+{
+    judge_held(file, launch, marks, records::columns_of(runs))
 }

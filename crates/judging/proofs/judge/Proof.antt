@@ -1,65 +1,20 @@
--- `judging::judge` meets its contract: reading's refusals, and on an accepted file what judging its table replies.
-use mathlib.Core.Path.{_≡_, _∙_, sym, ap, ap₂, subst}
-use borrow.Author.Needs.{needs}
-use Rattle.table.specs.declared.Table.{Table}
-use Rattle.table.specs.declared.Answer.the-variants.{Accepted}
-use Rattle.table.specs.Answers.{numberOf, placeOf, isAccepted}
-use Rattle.table.specs.Reading.{tableIn, readAnswer}
-use Rattle.table.specs.Writing.{Legal}
-use Rattle.table.proofs.AnswerLaws.{told-refused}
-use Rattle.table.proofs.RoundTrip.{read-legal, read-answer, read-is}
-use Rattle.schedule.specs.Judging.{judgeDeclined, judgeTable}
-use Rattle.schedule.proofs.VerdictLaws.{read-refused, read-accepted, sound-of}
-use Rattle.judging.proofs.judge.Statement.{statement}
-use Rattle.judging.proofs.judge.Tie as tie
+-- `judging::judge` meets its contract: it is `judge_held` with the runs' columns.
+use base.Logic.{sep}
+use contract.Monad.{fact}
+use mathlib.Core.Path.{_≡_}
+use Rattle.schedule.specs.Judging.{judged, Sound}
+use Rattle.schedule.proofs.VerdictLaws.{sound-of}
+use Rattle.records.proofs.Walking.{both-so}
+use Rattle.judging.proofs.JudgeCalls.{judge-met}
+use Rattle.judging.proofs.judge.Key.{name as #key}
+use Rattle.judging.proofs.judge.Statement as stated
+use Rattle.judging.proofs.judge.Code as code
 
--- past the `let .. else` the file is accepted, and the table read is that of the file
-accepted : (c : tie.After-enum-told) → readAnswer (c .before .before .before .before .before .before .before .before .args .file .now) ≡ Accepted
-accepted c = sym (read-answer _ _ (c .before .before .read .ensures)) ∙ c .enum-told .given .1
-
-table-is : (c : tie.After-enum-told) → c .before .before .read .result .table ≡ tableIn (c .before .before .before .before .before .before .before .before .args .file .now)
-table-is c = read-is _ _ (c .before .before .read .ensures) (accepted c)
-
-read-requires : tie.Need-read-requires
-read-requires c κs = search needs
-
-enum-told : tie.Need-enum-told
-enum-told c = search needs
-
-number-requires : tie.Need-number-requires
-number-requires c κs = search needs
-
-place-requires : tie.Need-place-requires
-place-requires c κs = search needs
-
-declined-requires : tie.Need-declined-requires
-declined-requires c κs = search needs
-
-returns : tie.Need-returns
-returns c =
-    let answer = read-answer (c .before .before .before .before .before .before .before .before .before .before .args .file .now) _ (c .before .before .before .before .read .ensures) in
-    let bad = ap isAccepted (sym answer) ∙ told-refused (c .before .before .before .before .read .result .answer) (c .before .before .before .match .keys2) in
-    let e = c .declined .ensures ∙ (ap₂ judgeDeclined (c .before .before .number .ensures ∙ ap numberOf answer) (c .before .place .ensures ∙ ap placeOf answer) ∙ read-refused (c .before .before .before .before .before .before .before .before .before .before .args .launch) (c .before .before .before .before .before .before .before .before .before .before .args .file .now) (c .before .before .before .before .before .before .before .before .before .before .args .marks .now) (c .before .before .before .before .before .before .before .before .before .before .args .starts .now) (c .before .before .before .before .before .before .before .before .before .before .args .ends .now) (c .before .before .before .before .before .before .before .before .before .before .args .tasks .now) bad) in
-    (e, sound-of (c .before .before .before .before .before .before .before .before .before .before .args .launch) (c .before .before .before .before .before .before .before .before .before .before .args .file .now) (c .before .before .before .before .before .before .before .before .before .before .args .marks .now) (c .before .before .before .before .before .before .before .before .before .before .args .starts .now) (c .before .before .before .before .before .before .before .before .before .before .args .ends .now) (c .before .before .before .before .before .before .before .before .before .before .args .tasks .now) _ e)
-
-judge-table-requires : tie.Need-judge-table-requires
-judge-table-requires c κs = subst Legal (sym (table-is (c .before))) (read-legal (c .before .before .before .before .before .before .before .before .before .args .file .now) (accepted (c .before)))
-
-returns-2 : tie.Need-returns-2
-returns-2 c =
-    let same = ap (λ (t : Table). judgeTable (c .before .before .before .before .before .before .before .before .before .before .args .launch) t (c .before .before .before .before .before .before .before .before .before .before .args .marks .now) (c .before .before .before .before .before .before .before .before .before .before .args .starts .now) (c .before .before .before .before .before .before .before .before .before .before .args .ends .now) (c .before .before .before .before .before .before .before .before .before .before .args .tasks .now)) (table-is (c .before .before)) in
-    let e = c .judge-table .ensures ∙ (same ∙ read-accepted (c .before .before .before .before .before .before .before .before .before .before .args .launch) (c .before .before .before .before .before .before .before .before .before .before .args .file .now) (c .before .before .before .before .before .before .before .before .before .before .args .marks .now) (c .before .before .before .before .before .before .before .before .before .before .args .starts .now) (c .before .before .before .before .before .before .before .before .before .before .args .ends .now) (c .before .before .before .before .before .before .before .before .before .before .args .tasks .now) (accepted (c .before .before))) in
-    (e, sound-of (c .before .before .before .before .before .before .before .before .before .before .args .launch) (c .before .before .before .before .before .before .before .before .before .before .args .file .now) (c .before .before .before .before .before .before .before .before .before .before .args .marks .now) (c .before .before .before .before .before .before .before .before .before .before .args .starts .now) (c .before .before .before .before .before .before .before .before .before .before .args .ends .now) (c .before .before .before .before .before .before .before .before .before .before .args .tasks .now) _ e)
-
-pub judge-spec : {M : Type 1} → statement M
-judge-spec =
-    tie.close
-    (tie.spec
-    read-requires
-    enum-told
-    number-requires
-    place-requires
-    declined-requires
-    returns
-    judge-table-requires
-    returns-2)
+pub judge-spec : {M : Type 1} → stated.statement M
+unfolding code.routine
+judge-spec 𝓤 H 𝓜 𝓖 𝓡 =
+    judge-met 𝓤 H 𝓜 𝓖 𝓡
+    (λ launch file marks runs r. sep 𝓤 (fact 𝓤 (r ≡ judged launch file marks runs)) (fact 𝓤 (Sound launch file marks runs r)))
+    (λ launch file marks runs r e. both-so 𝓤 (r ≡ judged launch file marks runs) (Sound launch file marks runs r) e
+    (sound-of launch file marks runs r e))
+    code.env code.calls-records·columns-of code.calls-judging·judge-held #key (code.unfolded 𝓤 H 𝓜 𝓡)

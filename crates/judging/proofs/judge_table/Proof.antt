@@ -5,17 +5,18 @@ use mathlib.Core.Bool.{true, false}
 use native.Mathlib.Omega.{arith}
 use borrow.Author.Needs.{needs}
 use borrow.Author.Tests.{ltb-false}
+use lib.Dec.{ltb}
 use lib.ListN.{length, getD}
-use Rattle.base.specs.Limits.{maxLaunch}
+use Rattle.base.specs.Limits.{maxLaunch, maxRuns}
 use Rattle.clock.specs.Clock.{badLaunch}
 use Rattle.table.proofs.FileLaws.{legal-count}
 use Rattle.schedule.specs.declared.Judged.{Judged}
 use Rattle.schedule.specs.Jobs.{noJob, jobAt}
-use Rattle.schedule.specs.Runs.{badColumns, runsOf}
+use Rattle.schedule.specs.Runs.{tooMany, runsOf}
 use Rattle.schedule.specs.Judging.{verdict, firstBadMark, judgeDeclined}
-use Rattle.schedule.proofs.RunLaws.{columns-known}
+use Rattle.schedule.proofs.ColumnLaws.{columns-many}
 use Rattle.schedule.proofs.JobLaws.{legal-period, legal-frames}
-use Rattle.schedule.proofs.VerdictLaws.{pass-verdict, jobs-at, kept-same, discarded-same, launch-refused, length-refused, mark-refused, columns-refused, says-yes, says-no}
+use Rattle.schedule.proofs.VerdictLaws.{pass-verdict, jobs-at, kept-same, discarded-same, launch-refused, length-refused, mark-refused, runs-refused, says-yes, says-no}
 use Rattle.judging.proofs.judge_table.Statement.{statement}
 use Rattle.judging.proofs.judge_table.Tie as tie
 
@@ -33,13 +34,16 @@ first-bad c = c .first-bad-mark .ensures ∙ ap (firstBadMark (c .before .before
 good : (c : tie.Else3) → c .before .before .before .before .before .before .before .before .before .before .args .table .count ≤ firstBadMark (c .before .before .before .before .before .before .before .before .before .before .args .marks .now) (c .before .before .before .before .before .before .before .before .before .before .args .table .count)
 good c = omega (arith, first-bad (c .before))
 
--- the columns were looked at
-columns : (c : tie.Else4) → badColumns (c .before .before .before .before .before .before .before .before .before .before .before .before .args .starts .now) (c .before .before .before .before .before .before .before .before .before .before .before .before .args .ends .now) (c .before .before .before .before .before .before .before .before .before .before .before .before .args .tasks .now) ≡ false
-columns c = sym (c .before .bad-columns .ensures) ∙ c .if4 .left
+-- the number of runs was looked at
+few : (c : tie.Else4) → ltb maxRuns (length (c .before .before .before .before .before .before .before .before .before .before .before .before .args .starts .now)) ≡ false
+few c = sym (c .before .too-many .ensures) ∙ c .if4 .left
+
+enough : (c : tie.Else4) → tooMany (runsOf (c .before .before .before .before .before .before .before .before .before .before .before .before .args .starts .now) (c .before .before .before .before .before .before .before .before .before .before .before .before .args .ends .now) (c .before .before .before .before .before .before .before .before .before .before .before .before .args .tasks .now)) ≡ false
+enough c = columns-many _ _ _ ∙ few c
 
 -- the array holds the table's jobs
 jobs : (c : tie.After-jobs-of) → (k : ℕ) → k < c .before .before .before .before .before .before .before .before .before .before .before .before .before .args .table .count → getD (c .jobs-of .result) k noJob ≡ jobAt (c .before .before .before .before .before .before .before .before .before .before .before .before .before .args .launch) (c .before .before .before .before .before .before .before .before .before .before .before .before .before .args .table) k
-jobs c = jobs-at (c .before .before .before .before .before .before .before .before .before .before .before .before .before .args .launch) (c .before .before .before .before .before .before .before .before .before .before .before .before .before .args .table) (c .jobs-of .result) (legal-count (c .before .before .before .before .before .before .before .before .before .before .before .before .before .pre) .1) (c .jobs-of .ensures)
+jobs c = jobs-at (c .before .before .before .before .before .before .before .before .before .before .before .before .before .args .launch) (c .before .before .before .before .before .before .before .before .before .before .before .before .before .args .table) (c .jobs-of .result) (legal-count (c .before .before .before .before .before .before .before .before .before .before .before .before .before .pre .0) .1) (c .jobs-of .ensures)
 
 -- what was found of the five conditions is the verdict
 verdict-is : (c : tie.After-verdict-of) → c .verdict-of .result ≡ verdict (c .before .before .before .before .before .before .before .before .before .before .before .before .before .before .args .launch) (c .before .before .before .before .before .before .before .before .before .before .before .before .before .before .args .table) (c .before .before .before .before .before .before .before .before .before .before .before .before .before .before .args .marks .now) (runsOf (c .before .before .before .before .before .before .before .before .before .before .before .before .before .before .args .starts .now) (c .before .before .before .before .before .before .before .before .before .before .before .before .before .before .args .ends .now) (c .before .before .before .before .before .before .before .before .before .before .before .before .before .before .args .tasks .now))
@@ -59,7 +63,7 @@ declined-requires : tie.Need-declined-requires
 declined-requires c κs = search needs
 
 returns : tie.Need-returns
-returns c = c .declined .ensures ∙ launch-refused (c .before .before .before .before .before .before .before .args .launch) (c .before .before .before .before .before .before .before .args .table) (c .before .before .before .before .before .before .before .args .marks .now) (c .before .before .before .before .before .before .before .args .starts .now) (c .before .before .before .before .before .before .before .args .ends .now) (c .before .before .before .before .before .before .before .args .tasks .now) (sym (c .before .before .bad-launch .ensures) ∙ c .before .if1 .taken)
+returns c = c .declined .ensures ∙ launch-refused (c .before .before .before .before .before .before .before .args .launch) (c .before .before .before .before .before .before .before .args .table) (c .before .before .before .before .before .before .before .args .marks .now) (runsOf (c .before .before .before .before .before .before .before .args .starts .now) (c .before .before .before .before .before .before .before .args .ends .now) (c .before .before .before .before .before .before .before .args .tasks .now)) (sym (c .before .before .bad-launch .ensures) ∙ c .before .if1 .taken)
 
 cast-count : tie.Need-cast-count
 cast-count c = search needs
@@ -68,7 +72,7 @@ declined-requires-2 : tie.Need-declined-requires-2
 declined-requires-2 c κs = search needs
 
 returns-2 : tie.Need-returns-2
-returns-2 c = c .declined2 .ensures ∙ length-refused (c .before .before .before .before .before .before .before .before .before .args .launch) (c .before .before .before .before .before .before .before .before .before .args .table) (c .before .before .before .before .before .before .before .before .before .args .marks .now) (c .before .before .before .before .before .before .before .before .before .args .starts .now) (c .before .before .before .before .before .before .before .before .before .args .ends .now) (c .before .before .before .before .before .before .before .before .before .args .tasks .now) (accepted (c .before .before .before)) (c .before .if2 .taken)
+returns-2 c = c .declined2 .ensures ∙ length-refused (c .before .before .before .before .before .before .before .before .before .args .launch) (c .before .before .before .before .before .before .before .before .before .args .table) (c .before .before .before .before .before .before .before .before .before .args .marks .now) (runsOf (c .before .before .before .before .before .before .before .before .before .args .starts .now) (c .before .before .before .before .before .before .before .before .before .args .ends .now) (c .before .before .before .before .before .before .before .before .before .args .tasks .now)) (accepted (c .before .before .before)) (c .before .if2 .taken)
 
 first-bad-mark-requires : tie.Need-first-bad-mark-requires
 first-bad-mark-requires c κs = search needs
@@ -79,33 +83,32 @@ declined-requires-3 c κs = search needs
 returns-3 : tie.Need-returns-3
 returns-3 c =
     let bad = first-bad (c .before .before) in
-    c .declined3 .ensures ∙ (ap (judgeDeclined 11) bad ∙ mark-refused (c .before .before .before .before .before .before .before .before .before .before .before .args .launch) (c .before .before .before .before .before .before .before .before .before .before .before .args .table) (c .before .before .before .before .before .before .before .before .before .before .before .args .marks .now) (c .before .before .before .before .before .before .before .before .before .before .before .args .starts .now) (c .before .before .before .before .before .before .before .before .before .before .before .args .ends .now) (c .before .before .before .before .before .before .before .before .before .before .before .args .tasks .now) (accepted (c .before .before .before .before .before)) (long (c .before .before .before)) (omega (arith, bad)))
+    c .declined3 .ensures ∙ (ap (judgeDeclined 11) bad ∙ mark-refused (c .before .before .before .before .before .before .before .before .before .before .before .args .launch) (c .before .before .before .before .before .before .before .before .before .before .before .args .table) (c .before .before .before .before .before .before .before .before .before .before .before .args .marks .now) (runsOf (c .before .before .before .before .before .before .before .before .before .before .before .args .starts .now) (c .before .before .before .before .before .before .before .before .before .before .before .args .ends .now) (c .before .before .before .before .before .before .before .before .before .before .before .args .tasks .now)) (accepted (c .before .before .before .before .before)) (long (c .before .before .before)) (omega (arith, bad)))
 
-bad-columns-requires : tie.Need-bad-columns-requires
-bad-columns-requires c κs = search needs
+too-many-requires : tie.Need-too-many-requires
+too-many-requires c κs = search needs
 
 declined-requires-4 : tie.Need-declined-requires-4
 declined-requires-4 c κs = search needs
 
 returns-4 : tie.Need-returns-4
-returns-4 c = c .declined4 .ensures ∙ columns-refused (c .before .before .before .before .before .before .before .before .before .before .before .before .before .args .launch) (c .before .before .before .before .before .before .before .before .before .before .before .before .before .args .table) (c .before .before .before .before .before .before .before .before .before .before .before .before .before .args .marks .now) (c .before .before .before .before .before .before .before .before .before .before .before .before .before .args .starts .now) (c .before .before .before .before .before .before .before .before .before .before .before .before .before .args .ends .now) (c .before .before .before .before .before .before .before .before .before .before .before .before .before .args .tasks .now) (accepted (c .before .before .before .before .before .before .before)) (long (c .before .before .before .before .before)) (good (c .before .before .before)) (sym (c .before .before .bad-columns .ensures) ∙ c .before .if4 .taken)
+returns-4 c = c .declined4 .ensures ∙ runs-refused (c .before .before .before .before .before .before .before .before .before .before .before .before .before .args .launch) (c .before .before .before .before .before .before .before .before .before .before .before .before .before .args .table) (c .before .before .before .before .before .before .before .before .before .before .before .before .before .args .marks .now) (runsOf (c .before .before .before .before .before .before .before .before .before .before .before .before .before .args .starts .now) (c .before .before .before .before .before .before .before .before .before .before .before .before .before .args .ends .now) (c .before .before .before .before .before .before .before .before .before .before .before .before .before .args .tasks .now)) (accepted (c .before .before .before .before .before .before .before)) (long (c .before .before .before .before .before)) (good (c .before .before .before)) (columns-many _ _ _ ∙ (sym (c .before .before .too-many .ensures) ∙ c .before .if4 .taken))
 
 jobs-of-requires : tie.Need-jobs-of-requires
 jobs-of-requires c κs =
     let t = c .before .before .before .before .before .before .before .before .before .before .before .before .args .table in
-    let l = c .before .before .before .before .before .before .before .before .before .before .before .before .pre in
+    let l = c .before .before .before .before .before .before .before .before .before .before .before .before .pre .0 in
     (legal-count l .1, (ltb-false maxLaunch _ (accepted (c .before .before .before .before .before .before)), (legal-period t l, legal-frames t l)))
 
 verdict-of-requires : tie.Need-verdict-of-requires
 verdict-of-requires c κs =
-    let k = columns-known _ _ _ (columns (c .before)) in
-    (legal-count (c .before .before .before .before .before .before .before .before .before .before .before .before .before .pre) .1, (long (c .before .before .before .before .before), (k .few, (k .ends-are, k .tasks-are))))
+    (legal-count (c .before .before .before .before .before .before .before .before .before .before .before .before .before .pre .0) .1, (long (c .before .before .before .before .before), (ltb-false maxRuns _ (few (c .before)), c .before .before .before .before .before .before .before .before .before .before .before .before .before .pre .1)))
 
 count-marked-requires : tie.Need-count-marked-requires
-count-marked-requires c κs = (legal-count (c .before .before .before .before .before .before .before .before .before .before .before .before .before .before .before .pre) .1, long (c .before .before .before .before .before .before .before))
+count-marked-requires c κs = (legal-count (c .before .before .before .before .before .before .before .before .before .before .before .before .before .before .before .pre .0) .1, long (c .before .before .before .before .before .before .before))
 
 count-marked-requires-2 : tie.Need-count-marked-requires-2
-count-marked-requires-2 c κs = (legal-count (c .before .before .before .before .before .before .before .before .before .before .before .before .before .before .before .before .pre) .1, long (c .before .before .before .before .before .before .before .before))
+count-marked-requires-2 c κs = (legal-count (c .before .before .before .before .before .before .before .before .before .before .before .before .before .before .before .before .pre .0) .1, long (c .before .before .before .before .before .before .before .before))
 
 says-requires : tie.Need-says-requires
 says-requires c κs = search needs
@@ -119,7 +122,7 @@ returns-5 c =
     let discarded = c .before .count-marked2 .ensures ∙ discarded-same launch t marks (λ k. getD (c .before .before .before .before .before .jobs-of .result) k noJob) (jobs (c .before .before .before .before .before)) in
     c .says .ensures
     ∙ (reply-is kept discarded
-    ∙ says-yes (c .before .before .before .before .before .before .before .before .before .before .before .before .before .before .before .before .before .before .args .launch) (c .before .before .before .before .before .before .before .before .before .before .before .before .before .before .before .before .before .before .args .table) (c .before .before .before .before .before .before .before .before .before .before .before .before .before .before .before .before .before .before .args .marks .now) (c .before .before .before .before .before .before .before .before .before .before .before .before .before .before .before .before .before .before .args .starts .now) (c .before .before .before .before .before .before .before .before .before .before .before .before .before .before .before .before .before .before .args .ends .now) (c .before .before .before .before .before .before .before .before .before .before .before .before .before .before .before .before .before .before .args .tasks .now) (accepted (c .before .before .before .before .before .before .before .before .before .before .before .before)) (long (c .before .before .before .before .before .before .before .before .before .before)) (good (c .before .before .before .before .before .before .before .before)) (columns (c .before .before .before .before .before .before)) (sym (verdict-is (c .before .before .before .before)) ∙ c .before .before .before .if5 .taken))
+    ∙ says-yes (c .before .before .before .before .before .before .before .before .before .before .before .before .before .before .before .before .before .before .args .launch) (c .before .before .before .before .before .before .before .before .before .before .before .before .before .before .before .before .before .before .args .table) (c .before .before .before .before .before .before .before .before .before .before .before .before .before .before .before .before .before .before .args .marks .now) (runsOf (c .before .before .before .before .before .before .before .before .before .before .before .before .before .before .before .before .before .before .args .starts .now) (c .before .before .before .before .before .before .before .before .before .before .before .before .before .before .before .before .before .before .args .ends .now) (c .before .before .before .before .before .before .before .before .before .before .before .before .before .before .before .before .before .before .args .tasks .now)) (accepted (c .before .before .before .before .before .before .before .before .before .before .before .before)) (long (c .before .before .before .before .before .before .before .before .before .before)) (good (c .before .before .before .before .before .before .before .before)) (enough (c .before .before .before .before .before .before)) (sym (verdict-is (c .before .before .before .before)) ∙ c .before .before .before .if5 .taken))
 
 says-requires-2 : tie.Need-says-requires-2
 says-requires-2 c κs = search needs
@@ -127,7 +130,7 @@ says-requires-2 c κs = search needs
 returns-6 : tie.Need-returns-6
 returns-6 c =
     c .says2 .ensures
-    ∙ says-no (c .before .before .before .before .before .before .before .before .before .before .before .before .before .before .before .before .args .launch) (c .before .before .before .before .before .before .before .before .before .before .before .before .before .before .before .before .args .table) (c .before .before .before .before .before .before .before .before .before .before .before .before .before .before .before .before .args .marks .now) (c .before .before .before .before .before .before .before .before .before .before .before .before .before .before .before .before .args .starts .now) (c .before .before .before .before .before .before .before .before .before .before .before .before .before .before .before .before .args .ends .now) (c .before .before .before .before .before .before .before .before .before .before .before .before .before .before .before .before .args .tasks .now) (accepted (c .before .before .before .before .before .before .before .before .before .before)) (long (c .before .before .before .before .before .before .before .before)) (good (c .before .before .before .before .before .before)) (columns (c .before .before .before .before)) (sym (verdict-is (c .before .before)) ∙ c .before .if5 .left)
+    ∙ says-no (c .before .before .before .before .before .before .before .before .before .before .before .before .before .before .before .before .args .launch) (c .before .before .before .before .before .before .before .before .before .before .before .before .before .before .before .before .args .table) (c .before .before .before .before .before .before .before .before .before .before .before .before .before .before .before .before .args .marks .now) (runsOf (c .before .before .before .before .before .before .before .before .before .before .before .before .before .before .before .before .args .starts .now) (c .before .before .before .before .before .before .before .before .before .before .before .before .before .before .before .before .args .ends .now) (c .before .before .before .before .before .before .before .before .before .before .before .before .before .before .before .before .args .tasks .now)) (accepted (c .before .before .before .before .before .before .before .before .before .before)) (long (c .before .before .before .before .before .before .before .before)) (good (c .before .before .before .before .before .before)) (enough (c .before .before .before .before)) (sym (verdict-is (c .before .before)) ∙ c .before .if5 .left)
 
 pub judge-table-spec : {M : Type 1} → statement M
 judge-table-spec =
@@ -142,7 +145,7 @@ judge-table-spec =
     first-bad-mark-requires
     declined-requires-3
     returns-3
-    bad-columns-requires
+    too-many-requires
     declined-requires-4
     returns-4
     jobs-of-requires

@@ -1,0 +1,4 @@
+pub mod RecordLaws
+pub mod HeldLaws
+pub mod Walking
+pub mod ThinCalls

@@ -1,0 +1,55 @@
+-- For the proofs of the code alone: the columns that run records are copied into, and the runs that they hold.
+use Prim.Native.Nat.{ℕ, zero, suc, _+_, _≤_, min}
+use mathlib.Core.List.{List}
+use lib.ListN.{length, getD, set, replicate, take}
+use Rattle.base.specs.Limits.{maxRuns}
+use Rattle.schedule.specs.declared.Run.{Run}
+use Rattle.schedule.specs.Runs.{noRun, runsOf}
+use Rattle.records.specs.declared.RunColumns.{RunColumns}
+
+-- how many runs of a list are looked at: one more than the most runs, so that a list of too many shows
+abbrev pub heldRuns : ℕ
+heldRuns = maxRuns + 1
+
+-- a column of zeros
+abbrev pub noNumbers : List ℕ
+noNumbers = replicate heldRuns 0
+
+-- a column of zeros with a number of each of the first n runs in their places
+unfoldable pub filled : (Run → ℕ) → List Run → ℕ → List ℕ
+filled number runs zero = noNumbers
+filled number runs (suc n) = set (filled number runs n) n (number (getD runs n noRun))
+
+-- columns by their parts
+abbrev pub madeOf : ℕ → List ℕ → List ℕ → List ℕ → RunColumns
+madeOf count starts ends tasks = record { count = count; starts = starts; ends = ends; tasks = tasks }
+
+-- the numbers of a run
+abbrev pub startOf : Run → ℕ
+startOf run = run .start
+
+abbrev pub endOf : Run → ℕ
+endOf run = run .end
+
+abbrev pub taskNumber : Run → ℕ
+taskNumber run = run .task
+
+-- how many runs of a list the columns hold
+abbrev pub heldCount : List Run → ℕ
+heldCount runs = min (length runs) heldRuns
+
+-- the columns of a list of records
+unfoldable pub columnsOf : List Run → RunColumns
+columnsOf runs =
+    madeOf (heldCount runs) (filled startOf runs (heldCount runs)) (filled endOf runs (heldCount runs)) (filled taskNumber runs (heldCount runs))
+
+-- the runs that columns hold
+unfoldable pub runsHeld : RunColumns → List Run
+runsHeld columns = runsOf (take (columns .count) (columns .starts)) (take (columns .count) (columns .ends)) (take (columns .count) (columns .tasks))
+
+-- no more runs are counted than are held of a list, and each column has a place for every one
+pub record HeldColumns (columns : RunColumns) : Type 0 where
+  pub few : columns .count ≤ heldRuns
+  pub starts-held : columns .count ≤ length (columns .starts)
+  pub ends-held : columns .count ≤ length (columns .ends)
+  pub tasks-held : columns .count ≤ length (columns .tasks)
