@@ -1,0 +1,105 @@
+// Queries of a run list, whoever made it (entry points): the run at a tick, the first run that starts at a tick or after it, the caller's own runs that share
+// a tick with an interval, and the check that tells what a query refuses. The records are copied into columns once, and the search is done there.
+ghost use mathlib.Core.Path.{_≡_};
+ghost use Rattle.schedule.specs.Queries.{runsAnswer, runAtTick, runFromTick, touching, stretchOf, TouchingPart};
+ghost use Rattle.records.specs.RecordColumns.{HeldColumns, runsHeld};
+ghost use Rattle.queries.specs.Spans.{spanOf};
+use records::RunColumns;
+use schedule::Found;
+use schedule::Run;
+use schedule::RunsAnswer;
+use schedule::Stretch;
+
+// A part of a list: from one index to another, which is excluded.
+pub struct Span {
+    pub from: usize,
+    pub to: usize,
+}
+
+// The check of runs that were copied into columns.
+pub fn check_held(columns: RunColumns) -> RunsAnswer
+    requires { ⌜ HeldColumns columns ⌝ }
+    ensures { λ r. ⌜ r ≡ runsAnswer (runsHeld columns) ⌝ }
+{
+    let n = columns.count;
+    let starts = columns.starts;
+    let ends = columns.ends;
+    searching::check(&starts[..n], &ends[..n])
+}
+
+// The run at a tick, of runs that were copied into columns.
+pub fn run_at_held(columns: RunColumns, tick: u32) -> Found
+    requires { ⌜ HeldColumns columns ⌝ }
+    ensures { λ r. ⌜ r ≡ runAtTick (runsHeld columns) tick ⌝ }
+{
+    let n = columns.count;
+    let starts = columns.starts;
+    let ends = columns.ends;
+    let tasks = columns.tasks;
+    searching::run_at(&starts[..n], &ends[..n], &tasks[..n], tick)
+}
+
+// The first run that starts at a tick or after it, of runs that were copied into columns.
+pub fn run_from_held(columns: RunColumns, tick: u32) -> Found
+    requires { ⌜ HeldColumns columns ⌝ }
+    ensures { λ r. ⌜ r ≡ runFromTick (runsHeld columns) tick ⌝ }
+{
+    let n = columns.count;
+    let starts = columns.starts;
+    let ends = columns.ends;
+    let tasks = columns.tasks;
+    searching::run_from(&starts[..n], &ends[..n], &tasks[..n], tick)
+}
+
+// Where the runs stand that share a tick with an interval, of runs that were copied into columns.
+pub fn stretch_held(columns: RunColumns, a: u32, b: u32) -> Stretch
+    requires { ⌜ HeldColumns columns ⌝ }
+    ensures { λ r. ⌜ r ≡ stretchOf (runsHeld columns) a b ⌝ }
+{
+    let n = columns.count;
+    let starts = columns.starts;
+    let ends = columns.ends;
+    searching::stretch(&starts[..n], &ends[..n], a, b)
+}
+
+// The same, by the two ends of the stretch.
+fn span_held(columns: RunColumns, a: u32, b: u32) -> Span
+    requires { ⌜ HeldColumns columns ⌝ }
+    ensures { λ r. ⌜ r ≡ spanOf (stretchOf (runsHeld columns) a b) ⌝ }
+{
+    let stretch = stretch_held(columns, a, b);
+    Span {
+        from: stretch.first,
+        to: stretch.first + stretch.runs,
+    }
+}
+
+// What the queries refuse of a run list: 13, then 15.
+pub fn check(runs: &[Run]) -> RunsAnswer
+    ensures { λ r. ⌜ r ≡ runsAnswer (now (runs .entry)) ⌝ }
+{
+    check_held(records::columns_of(runs))
+}
+
+// The run that holds a tick, or none.
+pub fn run_at(runs: &[Run], tick: u32) -> Found
+    ensures { λ r. ⌜ r ≡ runAtTick (now (runs .entry)) tick ⌝ }
+{
+    run_at_held(records::columns_of(runs), tick)
+}
+
+// The first run that starts at a tick or after it, or none.
+pub fn run_from(runs: &[Run], tick: u32) -> Found
+    ensures { λ r. ⌜ r ≡ runFromTick (now (runs .entry)) tick ⌝ }
+{
+    run_from_held(records::columns_of(runs), tick)
+}
+
+// The stretch of the caller's own run list whose runs share a tick with the interval from `a` to `b`; it is empty where the check refuses the list.
+pub fn touching(runs: &[Run], a: u32, b: u32) -> &[Run]
+    ensures runs_are { λ r. ⌜ now r ≡ touching (now (runs .entry)) a b ⌝ }
+    ensures unbroken { λ r. ⌜ TouchingPart a b (now (runs .entry)) (now r) ⌝ }
+{
+    let span = span_held(records::columns_of(runs), a, b);
+    records::part(runs, span.from, span.to)
+}

@@ -1,0 +1,2 @@
+pub mod HalvingLaws
+pub mod ColumnLaws

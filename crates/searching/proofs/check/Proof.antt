@@ -1,0 +1,57 @@
+-- `searching::check` meets its contract: 13 by the number of starts, then 15 by the first index that is out of order.
+use Prim.Native.Nat.{ℕ, _≤_, _<_}
+use mathlib.Core.Path.{_≡_, sym, ap, _∙_}
+use mathlib.Core.Bool.{Bool, true, false}
+use mathlib.Core.List.{List}
+use native.Mathlib.Omega.{arith}
+use borrow.Author.Needs.{needs}
+use lib.Dec.{ltb}
+use lib.ListN.{length}
+use Rattle.base.specs.Limits.{maxRuns}
+use Rattle.schedule.specs.declared.RunsAnswer.the-variants as checked
+use Rattle.schedule.specs.Runs.{tooMany, runsOf}
+use Rattle.schedule.specs.Queries.{firstOutOfOrder, runsAnswer}
+use Rattle.schedule.proofs.ColumnLaws.{columns-length}
+use Rattle.schedule.proofs.SearchLaws.{many-refused, order-refused, accepts}
+use Rattle.searching.proofs.check.Statement.{statement}
+use Rattle.searching.proofs.check.Tie as tie
+
+-- the three answers, by the columns
+module _ (starts ends tasks : List ℕ) (many : Bool) (m : many ≡ ltb maxRuns (length starts)) where
+  many-is : tooMany (runsOf starts ends tasks) ≡ many
+  unfolding tooMany
+  many-is = rw (columns-length starts ends tasks) (sym m)
+
+  says-many : many ≡ true → checked.TooMany ≡ runsAnswer (runsOf starts ends tasks)
+  says-many e = sym (many-refused (runsOf starts ends tasks) (many-is ∙ e))
+
+  module _ (few : many ≡ false) (broken : ℕ) (b : broken ≡ firstOutOfOrder (runsOf starts ends tasks)) where
+    says-order : broken < length starts → checked.OutOfOrder broken ≡ runsAnswer (runsOf starts ends tasks)
+    says-order l =
+        sym (order-refused (runsOf starts ends tasks) (many-is ∙ few) (omega (arith, columns-length starts ends tasks)) ∙ ap checked.OutOfOrder (sym b))
+
+    says-accepted : length starts ≤ broken → checked.Accepted ≡ runsAnswer (runsOf starts ends tasks)
+    says-accepted l = sym (accepts (runsOf starts ends tasks) (many-is ∙ few) (omega (arith, columns-length starts ends tasks)))
+
+too-many-requires : tie.Need-too-many-requires
+too-many-requires c κs = search needs
+
+returns : tie.Need-returns
+returns c tasks = says-many _ _ tasks _ (c .before .too-many .ensures) (c .if1 .taken)
+
+first-out-of-order-requires : tie.Need-first-out-of-order-requires
+first-out-of-order-requires c κs = search needs
+
+returns-2 : tie.Need-returns-2
+returns-2 c tasks =
+    let many = c .before .before .before .too-many in
+    says-order _ _ tasks _ (many .ensures) (c .before .before .if1 .left) _ (c .before .first-out-of-order .ensures tasks) (c .if2 .taken)
+
+returns-3 : tie.Need-returns-3
+returns-3 c tasks =
+    let many = c .before .before .before .too-many in
+    says-accepted _ _ tasks _ (many .ensures) (c .before .before .if1 .left) _ (c .before .first-out-of-order .ensures tasks) (c .if2 .left)
+
+pub check-spec : {M : Type 1} → statement M
+check-spec =
+    tie.close (tie.spec too-many-requires returns first-out-of-order-requires returns-2 returns-3)
