@@ -10,11 +10,13 @@ use lib.ListN.{length, take, length-append}
 use lib.Seq.{take-all}
 use borrow.Author.Tests.{eqb-true, eqb-false, ne-eqb, lt-ltb, le-ltb}
 use Rattle.base.specs.Limits.{maxTasks, maxPlanRuns}
+use Rattle.base.specs.Tests.{pick}
 use Rattle.base.proofs.TestLaws.{cases, pick-cases}
 use Rattle.lines.specs.Text.{line}
 use Rattle.lines.specs.Putting.{Put}
 use Rattle.lines.proofs.PutLaws.{put-front}
 use Rattle.lines.proofs.LineLaws.{line-few}
+use Rattle.table.specs.declared.Table.{Table}
 use Rattle.table.specs.Layout.{maxFile, heldBytes}
 use Rattle.table.specs.Answers.{numberOf, placeOf, isAccepted}
 use Rattle.table.specs.Reading.{tableIn, readAnswer, reading}
@@ -41,7 +43,7 @@ drops-length k (mark ∷ marks) =
     (λ e. rw e (omega (arith, length-append (line dropWord (k ∷ [])) (dropsFrom (suc k) marks), line-few dropWord (k ∷ []), drops-length (suc k) marks)))
     (λ e. rw e (omega (arith, drops-length (suc k) marks)))
 
-runs-length : (runs : List Run) → length (runLines runs) ≤ maxLine * length runs
+pub runs-length : (runs : List Run) → length (runLines runs) ≤ maxLine * length runs
 unfolding runLines runLine
 runs-length [] = omega arith
 runs-length (run ∷ runs) =
@@ -72,20 +74,60 @@ plan-text-length launch file p =
       legal-count (p .legal),
     )
 
+-- A text that is made of a file's table where planning replies 0, and else the refusal: every text that is printed of a file at a launch tick is one.
+abbrev pub repliedText : (Table → List ℕ) → ℕ → List ℕ → List ℕ
+repliedText of launch file =
+    pick (eqb (longReply launch file .number) 0) (of (tableIn file)) (refusalText (longReply launch file .number) (longReply launch file .place))
+
+module _ (of : Table → List ℕ) (launch : ℕ) where
+  -- It is no longer than maxText where that of a plan is not.
+  pub replied-length : (file : List ℕ) → (Plannable launch file → length (of (tableIn file)) ≤ maxText) → length (repliedText of launch file) ≤ maxText
+  unfolding longReply
+  replied-length file few =
+      let reply = longReply launch file in
+      cases (eqb (reply .number) 0)
+      (λ e. rw e (few (plan-made launch file _ (eqb-true (reply .number) 0 e) .made)))
+      (λ e. rw e (refusal-length (reply .number) (reply .place)))
+
+  -- What it is where a plan was made, and of a refusal.
+  pub replied-planned : (file : List ℕ) (reply : Planned) → reply ≡ longReply launch file → reply .number ≡ 0
+      → of (tableIn file) ≡ repliedText of launch file
+  replied-planned file reply e z = rw (← e, z)
+
+  pub replied-refused : (file : List ℕ) (reply : Planned) → reply ≡ longReply launch file → (reply .number ≡ 0 → ⊥)
+      → refusalText (reply .number) (reply .place) ≡ repliedText of launch file
+  replied-refused file reply e z = rw (← e, ne-eqb (reply .number) 0 z)
+
+  -- So of a file that reading refuses.
+  replied-unread : (file : List ℕ) → isAccepted (readAnswer file) ≡ false
+      → refusalText (numberOf (readAnswer file)) (placeOf (readAnswer file)) ≡ repliedText of launch file
+  unfolding longReply
+  replied-unread file e =
+      replied-refused file (planDeclined (numberOf (readAnswer file)) (placeOf (readAnswer file))) (sym (file-refused launch file _ e))
+      (eqb-false (numberOf (readAnswer file)) 0 (refused-number (readAnswer file) e))
+
+  -- It follows from the file's first bytes, as many as are held of a file: 501.
+  pub replied-prefix : (file : List ℕ) → repliedText of launch (take heldBytes file) ≡ repliedText of launch file
+  replied-prefix file =
+      elim (decLt maxFile (length file)) [
+        | yes h ↦
+            let same = read-prefix file in
+            let bad = long-refused file h in
+            sym (replied-unread (take heldBytes file) (ap isAccepted same ∙ bad))
+            ∙ (ap₂ refusalText (ap numberOf same) (ap placeOf same) ∙ replied-unread file bad)
+        | no h ↦ ap (repliedText of launch) (take-all heldBytes file (omega arith))
+      ]
+
 -- No text is longer than maxText.
 pub printed-length : (launch : ℕ) (file : List ℕ) → length (printed launch file) ≤ maxText
-unfolding printed longReply
-printed-length launch file =
-    let reply = longReply launch file in
-    cases (eqb (reply .number) 0)
-    (λ e. rw e (plan-text-length launch file (plan-made launch file _ (eqb-true (reply .number) 0 e) .made)))
-    (λ e. rw e (refusal-length (reply .number) (reply .place)))
+unfolding printed
+printed-length launch file = replied-length (planText launch) launch file (plan-text-length launch file)
 
 -- What is printed of a refusal.
 pub printed-refused : (launch : ℕ) (file : List ℕ) (reply : Planned) → reply ≡ longReply launch file → (reply .number ≡ 0 → ⊥)
     → refusalText (reply .number) (reply .place) ≡ printed launch file
 unfolding printed
-printed-refused launch file reply e z = rw (← e, ne-eqb (reply .number) 0 z)
+printed-refused launch = replied-refused (planText launch) launch
 
 -- What is printed of a plan, from the lists that the plan call wrote.
 module _ (launch : ℕ) (file : List ℕ) (reply : Planned) (old new : LentLists) (r : Replied launch file reply old new) (zero-is : reply .number ≡ 0) where
@@ -139,22 +181,7 @@ pub print-most : (text : List ℕ) (room next : ℕ) → length text ≤ maxText
 unfolding printLength
 print-most text room next few e = rw e (pick-cases (λ n. n ≤ maxText) (ltb room maxText) (λ q. omega arith) (λ q. few))
 
--- what is printed of a file that reading refuses
-printed-unread : (launch : ℕ) (file : List ℕ) → isAccepted (readAnswer file) ≡ false
-    → refusalText (numberOf (readAnswer file)) (placeOf (readAnswer file)) ≡ printed launch file
-unfolding longReply
-printed-unread launch file e =
-    printed-refused launch file (planDeclined (numberOf (readAnswer file)) (placeOf (readAnswer file))) (sym (file-refused launch file _ e))
-    (eqb-false (numberOf (readAnswer file)) 0 (refused-number (readAnswer file) e))
-
 -- What is printed of a file follows from its first bytes, as many as are held of a file: 501.
 pub printed-prefix : (launch : ℕ) (file : List ℕ) → printed launch (take heldBytes file) ≡ printed launch file
-printed-prefix launch file =
-    elim (decLt maxFile (length file)) [
-      | yes h ↦
-          let same = read-prefix file in
-          let bad = long-refused file h in
-          sym (printed-unread launch (take heldBytes file) (ap isAccepted same ∙ bad))
-          ∙ (ap₂ refusalText (ap numberOf same) (ap placeOf same) ∙ printed-unread launch file bad)
-      | no h ↦ ap (printed launch) (take-all heldBytes file (omega arith))
-    ]
+unfolding printed
+printed-prefix launch = replied-prefix (planText launch) launch

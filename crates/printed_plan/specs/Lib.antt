@@ -1,3 +1,4 @@
 pub mod Printing
 pub mod ProgramInput
 pub mod EarlierText
+pub mod NowText

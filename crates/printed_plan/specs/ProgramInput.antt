@@ -30,7 +30,7 @@ fileAfter input = drop launchBytes input
 unfoldable pub printedInput : List ℕ → List ℕ
 printedInput input = pick (ltb (length input) launchBytes) (refusalText 1 (length input)) (printed (launchIn input) (fileAfter input))
 
--- the text printed of an input stands at the front of a lent list, and has so many bytes
-pub record Prints (input old : List ℕ) (bytes : ℕ) (new : List ℕ) : Type 0 where
-  pub bytes-are : bytes ≡ length (printedInput input)
-  pub content : new ≡ writtenFront (printedInput input) old
+-- a text stands at the front of a lent list, and has so many bytes
+pub record Prints (text old : List ℕ) (bytes : ℕ) (new : List ℕ) : Type 0 where
+  pub bytes-are : bytes ≡ length text
+  pub content : new ≡ writtenFront text old

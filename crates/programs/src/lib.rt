@@ -1,5 +1,6 @@
 // The programs, each as one function over file descriptors. The sizes of what is held come with the types of the functions that are called: a program
 // can't choose them.
+use console::NOW_INPUT_BYTES;
 use report::INPUT_BYTES;
 use report::MAX_TEXT;
 
@@ -15,5 +16,15 @@ pub fn plan(input: i32, output: i32) {
     let filled = io::read_full(input, &mut held);
     let mut text = [0u8; MAX_TEXT];
     let printed = report::print_held(held, filled, &mut text);
+    io::write_all(output, &text[..printed]);
+}
+
+// Plans the table file of an input at the launch tick before it, and prints what runs at the tick that stands there too, what runs next and
+// the runs of so many ticks from it on, or the refusal.
+pub fn now(input: i32, output: i32) {
+    let mut held = [0u8; NOW_INPUT_BYTES];
+    let filled = io::read_full(input, &mut held);
+    let mut text = [0u8; MAX_TEXT];
+    let printed = console::print_now_held(held, filled, &mut text);
     io::write_all(output, &text[..printed]);
 }

@@ -61,7 +61,7 @@ fn put_run(out: &mut [u8], at: usize, start: u32, end: u32, task: u32) -> usize
 }
 
 // The RUN lines of runs in three columns.
-fn put_runs(out: &mut [u8], at: usize, starts: &[u32], ends: &[u32], tasks: &[u32]) -> usize
+pub fn put_runs(out: &mut [u8], at: usize, starts: &[u32], ends: &[u32], tasks: &[u32]) -> usize
     requires { ⌜ (length (now ends) ≡ length (now starts)) × (length (now tasks) ≡ length (now starts)) ⌝ }
     requires { ⌜ at + length (runLines (runsOf (now starts) (now ends) (now tasks))) ≤ length (now out) ⌝ }
     ensures { λ r. ⌜ Put (runLines (runsOf (now (starts .entry)) (now (ends .entry)) (now (tasks .entry)))) at (now (out .entry)) r (now (out .exit)) ⌝ }
@@ -98,7 +98,7 @@ fn put_plan(
 }
 
 // The text of a refusal put at the front of a list: its number and place.
-fn put_refusal(out: &mut [u8], number: u32, place: usize) -> usize
+pub fn put_refusal(out: &mut [u8], number: u32, place: usize) -> usize
     requires { ⌜ length (refusalText number place) ≤ length (now out) ⌝ }
     ensures { λ r. ⌜ Put (refusalText number place) 0 (now (out .entry)) r (now (out .exit)) ⌝ }
 {
@@ -153,8 +153,8 @@ fn four_bytes(first: u8, second: u8, third: u8, last: u8) -> u32
     ((first as u32 * 256 + second as u32) * 256 + third as u32) * 256 + last as u32
 }
 
-// The launch tick at the front of an input.
-fn launch_in(input: &[u8]) -> u32
+// The launch tick at the front of an input: a number of 4 bytes, high byte first.
+pub fn launch_in(input: &[u8]) -> u32
     requires { ⌜ launchBytes ≤ length (now input) ⌝ }
     ensures { λ r. ⌜ r ≡ launchIn (now (input .entry)) ⌝ }
 {
@@ -180,7 +180,7 @@ pub fn print_input(input: &[u8], out: &mut [u8]) -> usize
 // The same of an input that is held. The first `filled` places of `held` are its first bytes: the whole input, or as many as there are places. They settle
 // what is printed.
 pub fn print_held(held: [u8; INPUT_BYTES], filled: usize, text: &mut [u8; MAX_TEXT]) -> usize
-    ensures printed { λ r. ⌜ ((input : List ℕ) → HoldsFirst inputBytes held filled input → Prints input (now (text .entry)) r (now (text .exit))) ⌝ }
+    ensures printed { λ r. ⌜ ((input : List ℕ) → HoldsFirst inputBytes held filled input → Prints (printedInput input) (now (text .entry)) r (now (text .exit))) ⌝ }
     ensures size { λ r. ⌜ length held ≡ inputBytes ⌝ }
     ensures within { λ r. ⌜ r ≤ length (now (text .exit)) ⌝ }
 {

@@ -8,8 +8,9 @@ use lib.Seq.{length-take-le}
 use Rattle.bits.specs.Bits.{bytesFor}
 use Rattle.table.specs.Layout.{fileLength}
 use Rattle.table.proofs.PrefixLaws.{held-taken}
+use Rattle.printed_plan.specs.ProgramInput.{inputBytes, printedInput}
 use Rattle.printed_plan.proofs.TextLaws.{print-most}
-use Rattle.printed_plan.proofs.InputLaws.{input-length, held-printed}
+use Rattle.printed_plan.proofs.InputLaws.{input-length, input-prefix, held-printed}
 use Rattle.report.proofs.print_held.Statement.{statement}
 use Rattle.report.proofs.print_held.Tie as tie
 
@@ -36,8 +37,8 @@ returns c =
     let part = c .before .before .before in
     let start = part .before in (
       λ input h.
-          held-printed (start .args .t1) (start .args .filled) input _ _ _ (omega arith) (rw (part-is part) at (c .print-input .ensures .0))
-          (rw (part-is part) at (c .print-input .ensures .1)) h,
+          held-printed printedInput inputBytes input-prefix (start .args .t1) (start .args .filled) input _ _ _ (omega arith)
+          (rw (part-is part) at (c .print-input .ensures .0)) (rw (part-is part) at (c .print-input .ensures .1)) h,
       (omega arith, omega (arith, print-most _ _ _ (input-length _) (c .print-input .ensures .0))),
     )
 
