@@ -10,7 +10,7 @@
  * - A list that is lent for writing (no const) overlaps no other list of the same call. Lists that are only read may overlap or be the same.
  *
  * No call uses a heap, keeps anything between calls, or writes anything but the lists that it was lent and its reply. Calls on different lists may
- * run at the same time on different threads. A call needs less than 32 KB of stack.
+ * run at the same time on different threads. A call needs less than 32 KB of stack, and one that takes a run list, which it copies, less than 64 KB.
  *
  * Ticks are milliseconds. A frame lasts p/q ticks. Planning and judging take a launch tick, 0 to 86399999 (a day's last tick), where frame 0 begins:
  * it is added to every tick of the frame clock. The data of a frame are complete when it ends: a window holds the ticks from launch plus the least tick
@@ -43,8 +43,10 @@
  *   10      a moved frame is below 0 or above 131071                         the lowest such position
  *   11      the keep list is not n long, or a mark is above 1                n if the length is wrong, else the first bad mark
  *   12      a field to be written is wider than its bits                     the lowest such position
- *   13      more than 4096 runs, or run columns of unequal length            0
+ *   13      more than 4096 runs                                              0
  *   14      the launch tick is above 86399999                                0
+ *   15      a run whose start is not below its end, or lies before the       the index of the first such run
+ *           previous end
  *
  * The first cause that holds, in the order that stands at each call, is the one replied.
  */
@@ -60,7 +62,7 @@ extern "C" {
 #endif
 
 #define PLANNER_MAX_TASKS 64        /* tasks of a table */
-#define PLANNER_MAX_RUNS 4096       /* runs of a list that is judged or counted */
+#define PLANNER_MAX_RUNS 4096       /* runs of a list that is judged, counted or asked */
 #define PLANNER_LAST_FRAME 131071   /* the last frame that a table can name */
 #define PLANNER_MAX_PERIOD 4095     /* p and q */
 #define PLANNER_MAX_TICKS 16383     /* a mandatory or an optional part */
@@ -90,8 +92,10 @@ enum {
     PLANNER_FRAME_OUTSIDE = 10,
     PLANNER_BAD_MARKS = 11,
     PLANNER_WIDE_FIELD = 12,
-    PLANNER_BAD_RUNS = 13,
-    PLANNER_BAD_LAUNCH = 14
+    PLANNER_MANY_RUNS = 13,
+    PLANNER_BAD_RUNS = PLANNER_MANY_RUNS, /* its name when runs came as three columns */
+    PLANNER_BAD_LAUNCH = 14,
+    PLANNER_RUNS_OUT_OF_ORDER = 15
 };
 
 /* A task: its window in frames, its two lengths in ticks. */
@@ -108,6 +112,13 @@ struct planner_table {
     uint32_t p;     /* 1 to 4095, at least q */
     uint32_t q;     /* 1 to 4095 */
     struct planner_task tasks[PLANNER_MAX_TASKS];
+};
+
+/* A run: it gives the ticks from its start, included, to its end, excluded, to the task at a position. */
+struct planner_run {
+    uint32_t start;
+    uint32_t end;
+    uint32_t task;
 };
 
 /* The reply of planner_read. */
@@ -147,6 +158,26 @@ struct planner_busy_count {
     uint32_t number;
     size_t place;
     uint64_t ticks;
+};
+
+/* The reply of planner_check_runs. */
+struct planner_checked {
+    uint32_t number;
+    size_t place;
+};
+
+/* The reply of planner_run_at and planner_run_from: a run or none. The run is 0 throughout where there is none, and on a refusal. */
+struct planner_found {
+    uint32_t number;
+    size_t place;
+    bool found;
+    struct planner_run run;
+};
+
+/* The reply of planner_runs_touching: a stretch of the caller's list, by its first index and how many runs. Of an empty one both are 0. */
+struct planner_part {
+    size_t first;
+    size_t runs;
 };
 
 /*
@@ -196,19 +227,35 @@ struct planner_planned planner_plan(const uint8_t *file, size_t file_length,
 struct planner_judged planner_judge(const uint8_t *file, size_t file_length,
                                     uint32_t launch,
                                     const uint8_t *marks, size_t marks_length,
-                                    const uint32_t *starts, size_t starts_length,
-                                    const uint32_t *ends, size_t ends_length,
-                                    const uint32_t *tasks, size_t tasks_length);
+                                    const struct planner_run *runs, size_t runs_length);
 
 /*
  * The busy count: over all runs, the ticks that the run shares with the interval from a, included, to b, excluded. It is 0 where a is not below b; a
  * run with start not below end adds 0. It means busy ticks only for runs that don't overlap; for others it is still this sum.
  * Refusals: 13.
  */
-struct planner_busy_count planner_busy(const uint32_t *starts, size_t starts_length,
-                                       const uint32_t *ends, size_t ends_length,
-                                       const uint32_t *tasks, size_t tasks_length,
-                                       uint32_t a, uint32_t b);
+struct planner_busy_count planner_busy(const struct planner_run *runs, size_t runs_length, uint32_t a, uint32_t b);
+
+/*
+ * Queries of a run list, whoever made it. The list is accepted where every start is below its end and no start lies before the previous end; then its runs
+ * are found by halving. Runs that touch, and any task numbers, are no fault.
+ * Refusals of planner_check_runs, planner_run_at and planner_run_from: 13, 15. The reply of planner_runs_touching has no number.
+ */
+
+/* The check: what the queries refuse of a list, and nothing else. */
+struct planner_checked planner_check_runs(const struct planner_run *runs, size_t runs_length);
+
+/* The run that holds a tick: its start is not after the tick, and its end is. */
+struct planner_found planner_run_at(const struct planner_run *runs, size_t runs_length, uint32_t tick);
+
+/* The first run that starts at the tick or after it. */
+struct planner_found planner_run_from(const struct planner_run *runs, size_t runs_length, uint32_t tick);
+
+/*
+ * The runs that share a tick with the interval from a, included, to b, excluded: one stretch of the caller's list, with all of them and no other. It is empty
+ * where a is not below b, and where planner_check_runs refuses the list.
+ */
+struct planner_part planner_runs_touching(const struct planner_run *runs, size_t runs_length, uint32_t a, uint32_t b);
 
 /* What the library was compiled with. */
 #ifdef __cplusplus
@@ -236,6 +283,16 @@ PLANNER_ASSERT(offsetof(struct planner_judged, kept) == 20);
 PLANNER_ASSERT(offsetof(struct planner_judged, discarded) == 24);
 PLANNER_ASSERT(sizeof(struct planner_busy_count) == 24);
 PLANNER_ASSERT(offsetof(struct planner_busy_count, ticks) == 16);
+PLANNER_ASSERT(sizeof(struct planner_run) == 12);
+PLANNER_ASSERT(offsetof(struct planner_run, end) == 4);
+PLANNER_ASSERT(offsetof(struct planner_run, task) == 8);
+PLANNER_ASSERT(sizeof(struct planner_checked) == 16);
+PLANNER_ASSERT(offsetof(struct planner_checked, place) == 8);
+PLANNER_ASSERT(sizeof(struct planner_found) == 32);
+PLANNER_ASSERT(offsetof(struct planner_found, found) == 16);
+PLANNER_ASSERT(offsetof(struct planner_found, run) == 20);
+PLANNER_ASSERT(sizeof(struct planner_part) == 16);
+PLANNER_ASSERT(offsetof(struct planner_part, runs) == 8);
 #undef PLANNER_ASSERT
 
 #ifdef __cplusplus

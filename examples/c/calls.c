@@ -81,64 +81,146 @@ static void show_busy(const char *what, struct planner_busy_count reply)
     printf("%s: %" PRIu32 " %zu %" PRIu64 "\n", what, reply.number, reply.place, reply.ticks);
 }
 
+/* The first runs of the three columns of a plan, as records. */
+static void records_of(struct planner_run *runs, size_t count, const uint32_t *starts, const uint32_t *ends, const uint32_t *tasks)
+{
+    for (size_t i = 0; i < count; i++) {
+        runs[i] = (struct planner_run){starts[i], ends[i], tasks[i]};
+    }
+}
+
+/* The reply of the check of a run list. */
+static void show_checked(const char *what, struct planner_checked reply)
+{
+    printf("%s: %" PRIu32 " %zu\n", what, reply.number, reply.place);
+}
+
+/* The reply of a query for one run. */
+static void show_found(const char *what, struct planner_found reply)
+{
+    printf("%s: %" PRIu32 " %zu %s %" PRIu32 " %" PRIu32 " %" PRIu32 "\n", what, reply.number, reply.place, reply.found ? "run" : "none",
+           reply.run.start, reply.run.end, reply.run.task);
+}
+
+/* The reply of the query for an interval. */
+static void show_part(const char *what, struct planner_part reply)
+{
+    printf("%s: %zu %zu\n", what, reply.first, reply.runs);
+}
+
+/* The file of three tasks, and the lists of a plan of three tasks. */
+enum { FILE_BYTES = PLANNER_FILE_LENGTH(3), RUNS = PLANNER_PLAN_RUNS(3) };
+
+struct plan_lists {
+    uint8_t marks[3];
+    uint32_t starts[RUNS], ends[RUNS], tasks[RUNS];
+};
+
+/* Planning into whole lists, with the reply and the lists on a line. */
+static void plan_and_show(const char *what, const uint8_t *file, uint32_t launch, struct plan_lists *l)
+{
+    struct planner_planned reply = planner_plan(file, FILE_BYTES, launch, l->marks, 3, l->starts, RUNS, l->ends, RUNS, l->tasks, RUNS);
+    show_planned(what, reply, l->marks, l->starts, l->ends, l->tasks);
+}
+
+/* Writing, reading and moving; `file` then holds the table `three`. */
+static void file_calls(uint8_t *file)
+{
+    uint8_t moved[FILE_BYTES];
+    struct planner_table wide = three;
+
+    show_written("write", planner_write(three, file, FILE_BYTES));
+    show_written("write into a byte less", planner_write(three, file, FILE_BYTES - 1));
+    wide.tasks[2].optional = PLANNER_MAX_TICKS + 1;
+    show_written("write a wide field", planner_write(wide, file, FILE_BYTES));
+
+    show_read("read", planner_read(file, FILE_BYTES));
+    show_read("read a byte less", planner_read(file, FILE_BYTES - 1));
+
+    show_written("shift by 1", planner_shift(file, FILE_BYTES, 1, moved, sizeof moved));
+    show_read("read what was moved", planner_read(moved, sizeof moved));
+    show_written("shift by -1", planner_shift(file, FILE_BYTES, -1, moved, sizeof moved));
+}
+
+/* Planning at launch 0 and at noon, and of similar windows. */
+static void plan_calls(const uint8_t *file, struct plan_lists *l, struct plan_lists *at_noon)
+{
+    uint8_t other[FILE_BYTES];
+    struct plan_lists turn;
+    struct planner_table neither = turns;
+
+    plan_and_show("plan", file, 0, l);
+    show_unplanned("plan with 2 marks", planner_plan(file, FILE_BYTES, 0, l->marks, 2, l->starts, RUNS, l->ends, RUNS, l->tasks, RUNS));
+    show_unplanned("plan at launch 86400000",
+                   planner_plan(file, FILE_BYTES, PLANNER_MAX_LAUNCH + 1, l->marks, 3, l->starts, RUNS, l->ends, RUNS, l->tasks, RUNS));
+    plan_and_show("plan at launch 43200000", file, noon, at_noon);
+
+    neither.tasks[2].release = 4;
+    neither.tasks[2].deadline = 8;
+    show_written("write windows of neither kind", planner_write(neither, other, sizeof other));
+    show_written("write similar windows", planner_write(turns, other, sizeof other));
+    plan_and_show("plan similar windows", other, 0, &turn);
+}
+
+/* Judging plans, and the busy count of one. */
+static void judge_calls(const uint8_t *file, const struct plan_lists *l, const struct plan_lists *at_noon)
+{
+    struct planner_run runs[RUNS], noon_runs[RUNS];
+
+    records_of(runs, RUNS, l->starts, l->ends, l->tasks);
+    show_judged("judge", planner_judge(file, FILE_BYTES, 0, l->marks, 3, runs, RUNS));
+    show_judged("judge without the last run", planner_judge(file, FILE_BYTES, 0, l->marks, 3, runs, RUNS - 1));
+    show_judged("judge with 2 marks", planner_judge(file, FILE_BYTES, 0, l->marks, 2, runs, RUNS));
+
+    records_of(noon_runs, RUNS, at_noon->starts, at_noon->ends, at_noon->tasks);
+    show_judged("judge the plan of launch 43200000 at that launch", planner_judge(file, FILE_BYTES, noon, at_noon->marks, 3, noon_runs, RUNS));
+    show_judged("judge the plan of launch 43200000 at launch 0", planner_judge(file, FILE_BYTES, 0, at_noon->marks, 3, noon_runs, RUNS));
+    show_judged("judge at launch 86400000", planner_judge(file, FILE_BYTES, PLANNER_MAX_LAUNCH + 1, l->marks, 3, runs, RUNS));
+
+    show_busy("busy from 3 to 9", planner_busy(runs, RUNS, 3, 9));
+}
+
+/* The check and the queries of a plan. */
+static void query_calls(const struct plan_lists *l)
+{
+    struct planner_run runs[RUNS];
+
+    records_of(runs, RUNS, l->starts, l->ends, l->tasks);
+    show_checked("check the plan", planner_check_runs(runs, RUNS));
+    show_found("run at 5", planner_run_at(runs, RUNS, 5));
+    show_found("run at 10", planner_run_at(runs, RUNS, 10));
+    show_found("run from 7", planner_run_from(runs, RUNS, 7));
+    show_found("run from 9", planner_run_from(runs, RUNS, 9));
+    show_part("touching 4 to 7", planner_runs_touching(runs, RUNS, 4, 7));
+    show_part("touching 10 to 20", planner_runs_touching(runs, RUNS, 10, 20));
+}
+
+/* Run lists that are refused: too many runs, and runs that overlap. */
+static void refused_runs(const uint8_t *file, const uint8_t *marks)
+{
+    static struct planner_run many[PLANNER_MAX_RUNS + 1];
+    struct planner_run overlapping[2] = {{3, 5, 0}, {4, 6, 1}};
+
+    show_judged("judge 4097 runs", planner_judge(file, FILE_BYTES, 0, marks, 3, many, PLANNER_MAX_RUNS + 1));
+    show_busy("busy with 4097 runs", planner_busy(many, PLANNER_MAX_RUNS + 1, 3, 9));
+    show_checked("check 4097 runs", planner_check_runs(many, PLANNER_MAX_RUNS + 1));
+
+    show_checked("check runs that overlap", planner_check_runs(overlapping, 2));
+    show_found("run at 3 of runs that overlap", planner_run_at(overlapping, 2, 3));
+    show_found("run from 3 of runs that overlap", planner_run_from(overlapping, 2, 3));
+    show_part("touching 0 to 9 of runs that overlap", planner_runs_touching(overlapping, 2, 0, 9));
+}
+
 /* The calls, one after another, on the two tables. */
 int main(void)
 {
-    uint8_t file[PLANNER_FILE_LENGTH(3)];
-    uint8_t moved[PLANNER_FILE_LENGTH(3)];
-    uint8_t marks[3];
-    uint32_t starts[PLANNER_PLAN_RUNS(3)];
-    uint32_t ends[PLANNER_PLAN_RUNS(3)];
-    uint32_t tasks[PLANNER_PLAN_RUNS(3)];
-    struct planner_table wide = three;
+    uint8_t file[FILE_BYTES];
+    struct plan_lists lists, at_noon;
 
-    show_written("write", planner_write(three, file, sizeof file));
-    show_written("write into a byte less", planner_write(three, file, sizeof file - 1));
-    wide.tasks[2].optional = PLANNER_MAX_TICKS + 1;
-    show_written("write a wide field", planner_write(wide, file, sizeof file));
-
-    show_read("read", planner_read(file, sizeof file));
-    show_read("read a byte less", planner_read(file, sizeof file - 1));
-
-    show_written("shift by 1", planner_shift(file, sizeof file, 1, moved, sizeof moved));
-    show_read("read what was moved", planner_read(moved, sizeof moved));
-    show_written("shift by -1", planner_shift(file, sizeof file, -1, moved, sizeof moved));
-
-    struct planner_planned plan = planner_plan(file, sizeof file, 0, marks, 3, starts, 5, ends, 5, tasks, 5);
-    show_planned("plan", plan, marks, starts, ends, tasks);
-    show_unplanned("plan with 2 marks", planner_plan(file, sizeof file, 0, marks, 2, starts, 5, ends, 5, tasks, 5));
-    show_unplanned("plan at launch 86400000", planner_plan(file, sizeof file, PLANNER_MAX_LAUNCH + 1, marks, 3, starts, 5, ends, 5, tasks, 5));
-
-    uint8_t noon_marks[3];
-    uint32_t noon_starts[PLANNER_PLAN_RUNS(3)];
-    uint32_t noon_ends[PLANNER_PLAN_RUNS(3)];
-    uint32_t noon_tasks[PLANNER_PLAN_RUNS(3)];
-    struct planner_planned later = planner_plan(file, sizeof file, noon, noon_marks, 3, noon_starts, 5, noon_ends, 5, noon_tasks, 5);
-    show_planned("plan at launch 43200000", later, noon_marks, noon_starts, noon_ends, noon_tasks);
-
-    struct planner_table neither = turns;
-    neither.tasks[2].release = 4;
-    neither.tasks[2].deadline = 8;
-    show_written("write windows of neither kind", planner_write(neither, moved, sizeof moved));
-    show_written("write similar windows", planner_write(turns, moved, sizeof moved));
-    uint8_t turn_marks[3];
-    uint32_t turn_starts[PLANNER_PLAN_RUNS(3)];
-    uint32_t turn_ends[PLANNER_PLAN_RUNS(3)];
-    uint32_t turn_tasks[PLANNER_PLAN_RUNS(3)];
-    struct planner_planned second = planner_plan(moved, sizeof moved, 0, turn_marks, 3, turn_starts, 5, turn_ends, 5, turn_tasks, 5);
-    show_planned("plan similar windows", second, turn_marks, turn_starts, turn_ends, turn_tasks);
-
-    show_judged("judge", planner_judge(file, sizeof file, 0, marks, 3, starts, 5, ends, 5, tasks, 5));
-    show_judged("judge without the last run", planner_judge(file, sizeof file, 0, marks, 3, starts, 4, ends, 4, tasks, 4));
-    show_judged("judge with 2 marks", planner_judge(file, sizeof file, 0, marks, 2, starts, 5, ends, 5, tasks, 5));
-
-    const char *at_noon = "judge the plan of launch 43200000 at that launch";
-    show_judged(at_noon, planner_judge(file, sizeof file, noon, noon_marks, 3, noon_starts, 5, noon_ends, 5, noon_tasks, 5));
-    const char *at_0 = "judge the plan of launch 43200000 at launch 0";
-    show_judged(at_0, planner_judge(file, sizeof file, 0, noon_marks, 3, noon_starts, 5, noon_ends, 5, noon_tasks, 5));
-    show_judged("judge at launch 86400000", planner_judge(file, sizeof file, PLANNER_MAX_LAUNCH + 1, marks, 3, starts, 5, ends, 5, tasks, 5));
-
-    show_busy("busy from 3 to 9", planner_busy(starts, 5, ends, 5, tasks, 5, 3, 9));
-    show_busy("busy with columns of unequal length", planner_busy(starts, 5, ends, 4, tasks, 5, 3, 9));
+    file_calls(file);
+    plan_calls(file, &lists, &at_noon);
+    judge_calls(file, &lists, &at_noon);
+    query_calls(&lists);
+    refused_runs(file, lists.marks);
     return 0;
 }

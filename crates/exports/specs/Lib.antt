@@ -1,1 +1,2 @@
 pub mod FileRead
+pub mod QueryReplies

@@ -1,4 +1,4 @@
-// The C interface: the six calls under plain names, for a program in C or Rust that links the static library. A list passes as a pointer and a
+// The C interface: the calls under plain names, for a program in C or Rust that links the static library. A list passes as a pointer and a
 // length. include/planner.h declares them.
 ghost use mathlib.Core.Path.{_≡_};
 ghost use lib.ListN.{length};
@@ -7,11 +7,18 @@ ghost use Rattle.table.specs.Writing.{writeReply, writtenOver};
 ghost use Rattle.table.specs.Moving.{moveReply, movedOver};
 ghost use Rattle.schedule.specs.Judging.{judged};
 ghost use Rattle.schedule.specs.BusyCount.{busyReply};
+ghost use Rattle.schedule.specs.Queries.{runsAnswer, runAtTick, runFromTick, stretchOf};
+ghost use Rattle.records.specs.RecordColumns.{HeldColumns, runsHeld};
 ghost use Rattle.plans.specs.Planning.{lent, planReply, listsAfter};
 ghost use Rattle.exports.specs.FileRead.{tableRead};
+ghost use Rattle.exports.specs.QueryReplies.{checkedReply, foundReply};
 use plans::Planned;
+use records::RunColumns;
 use schedule::Busy;
+use schedule::Found;
 use schedule::Judged;
+use schedule::Run;
+use schedule::Stretch;
 use table::Answer;
 use table::Table;
 use table::Written;
@@ -22,6 +29,22 @@ pub struct TableRead {
     pub number: u32,
     pub place: usize,
     pub table: Table,
+}
+
+// The reply of the check of a run list: the answer's number and place.
+#[repr(C)]
+pub struct Checked {
+    pub number: u32,
+    pub place: usize,
+}
+
+// The reply of a query for one run: the answer's number and place, whether there is a run, and the run, which is 0 throughout where there is none.
+#[repr(C)]
+pub struct FoundRun {
+    pub number: u32,
+    pub place: usize,
+    pub found: bool,
+    pub run: Run,
 }
 
 // Reading, as `reading::read` has it: the table is put straight into this reply, and not first into that one.
@@ -86,23 +109,89 @@ pub extern "C" fn planner_plan(
 
 // Judging at a launch tick.
 #[no_mangle]
-pub extern "C" fn planner_judge(
-    file: &[u8],
-    launch: u32,
-    marks: &[u8],
-    starts: &[u32],
-    ends: &[u32],
-    tasks: &[u32],
-) -> Judged
-    ensures { λ r. ⌜ r ≡ judged launch (now (file .entry)) (now (marks .entry)) (now (starts .entry)) (now (ends .entry)) (now (tasks .entry)) ⌝ }
+pub extern "C" fn planner_judge(file: &[u8], launch: u32, marks: &[u8], runs: &[Run]) -> Judged
+    ensures { λ r. ⌜ r ≡ judged launch (now (file .entry)) (now (marks .entry)) (now (runs .entry)) ⌝ }
 {
-    judging::judge(file, launch, marks, starts, ends, tasks)
+    judging::judge_held(file, launch, marks, records::columns_of(runs))
 }
 
 // The busy count of the interval from a to b.
 #[no_mangle]
-pub extern "C" fn planner_busy(starts: &[u32], ends: &[u32], tasks: &[u32], a: u32, b: u32) -> Busy
-    ensures { λ r. ⌜ r ≡ busyReply (now (starts .entry)) (now (ends .entry)) (now (tasks .entry)) a b ⌝ }
+pub extern "C" fn planner_busy(runs: &[Run], a: u32, b: u32) -> Busy
+    ensures { λ r. ⌜ r ≡ busyReply (now (runs .entry)) a b ⌝ }
 {
-    busy::busy(starts, ends, tasks, a, b)
+    busy::busy_held(records::columns_of(runs), a, b)
+}
+
+// The reply of the check, of runs that were copied into columns.
+fn checked_held(columns: RunColumns) -> Checked
+    requires { ⌜ HeldColumns columns ⌝ }
+    ensures { λ r. ⌜ r ≡ checkedReply (runsAnswer (runsHeld columns)) ⌝ }
+{
+    let answer = queries::check_held(columns);
+    Checked {
+        number: answer.number(),
+        place: answer.place(),
+    }
+}
+
+// The answer of a query for one run, as C gets it.
+fn found_reply(answer: Found) -> FoundRun
+    ensures { λ r. ⌜ r ≡ foundReply answer ⌝ }
+{
+    let run = answer.run();
+    FoundRun {
+        number: answer.number(),
+        place: answer.place(),
+        found: answer.is_one(),
+        run,
+    }
+}
+
+// The reply of the query for a tick, of runs that were copied into columns.
+fn found_at_held(columns: RunColumns, tick: u32) -> FoundRun
+    requires { ⌜ HeldColumns columns ⌝ }
+    ensures { λ r. ⌜ r ≡ foundReply (runAtTick (runsHeld columns) tick) ⌝ }
+{
+    found_reply(queries::run_at_held(columns, tick))
+}
+
+// The reply of the query from a tick on, of runs that were copied into columns.
+fn found_from_held(columns: RunColumns, tick: u32) -> FoundRun
+    requires { ⌜ HeldColumns columns ⌝ }
+    ensures { λ r. ⌜ r ≡ foundReply (runFromTick (runsHeld columns) tick) ⌝ }
+{
+    found_reply(queries::run_from_held(columns, tick))
+}
+
+// What the queries refuse of a run list.
+#[no_mangle]
+pub extern "C" fn planner_check_runs(runs: &[Run]) -> Checked
+    ensures { λ r. ⌜ r ≡ checkedReply (runsAnswer (now (runs .entry))) ⌝ }
+{
+    checked_held(records::columns_of(runs))
+}
+
+// The run that holds a tick.
+#[no_mangle]
+pub extern "C" fn planner_run_at(runs: &[Run], tick: u32) -> FoundRun
+    ensures { λ r. ⌜ r ≡ foundReply (runAtTick (now (runs .entry)) tick) ⌝ }
+{
+    found_at_held(records::columns_of(runs), tick)
+}
+
+// The first run that starts at a tick or after it.
+#[no_mangle]
+pub extern "C" fn planner_run_from(runs: &[Run], tick: u32) -> FoundRun
+    ensures { λ r. ⌜ r ≡ foundReply (runFromTick (now (runs .entry)) tick) ⌝ }
+{
+    found_from_held(records::columns_of(runs), tick)
+}
+
+// Where the runs stand that share a tick with the interval from a to b.
+#[no_mangle]
+pub extern "C" fn planner_runs_touching(runs: &[Run], a: u32, b: u32) -> Stretch
+    ensures { λ r. ⌜ r ≡ stretchOf (now (runs .entry)) a b ⌝ }
+{
+    queries::stretch_held(records::columns_of(runs), a, b)
 }

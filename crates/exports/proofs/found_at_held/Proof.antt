@@ -1,0 +1,18 @@
+-- `exports::found_at_held` meets its contract: the reply of the answer.
+use mathlib.Core.Path.{ap, _∙_}
+use borrow.Author.Needs.{needs}
+use Rattle.exports.specs.QueryReplies.{foundReply}
+use Rattle.exports.proofs.found_at_held.Statement.{statement}
+use Rattle.exports.proofs.found_at_held.Tie as tie
+
+run-at-held-requires : tie.Need-run-at-held-requires
+run-at-held-requires c κs = search needs
+
+found-reply-requires : tie.Need-found-reply-requires
+found-reply-requires c κs = search needs
+
+returns : tie.Need-returns
+returns c = c .found-reply .ensures ∙ ap foundReply (c .before .run-at-held .ensures)
+
+pub found-at-held-spec : {M : Type 1} → statement M
+found-at-held-spec = tie.close (tie.spec run-at-held-requires found-reply-requires returns)
