@@ -33,7 +33,7 @@ pub fn agrees(
         return false;
     }
     is_yes(
-        judging::judge(
+        judging::judge_columns(
             file,
             launch,
             &marks[0..count],

@@ -1,12 +1,14 @@
-// Runs the programs on files, and prints what each writes. The cases are the lines of the file `stdin`: `plan`, `to_text` or `from_text`, a colon, a space
-// and the name of a file. What is written to standard output and to standard error comes behind the line, in the order in which it was written.
+// Runs the programs on files, and prints what each writes. The cases are the lines of the file `stdin`: `plan`, `now`, `to_text` or `from_text`,
+// a colon, a space and the name of a file. What is written to standard output and to standard error comes behind the line, in the order in which
+// it was written.
 use libc::STDIN_FILENO;
 use libc::STDOUT_FILENO;
 
-// Runs a program on an open file: `plan`, table_to_text or table_from_text, by the first byte of its case.
+// Runs a program on an open file: `plan`, `now`, table_to_text or table_from_text, by the first byte of its case.
 fn run(start: u8, input: i32) {
     match start {
         b'p' => programs::plan(input, STDOUT_FILENO),
+        b'n' => programs::now(input, STDOUT_FILENO),
         b't' => programs::table_to_text(input, STDOUT_FILENO, STDOUT_FILENO),
         b'f' => programs::table_from_text(input, STDOUT_FILENO, STDOUT_FILENO),
         _ => cases::text(b"no such program\n"),

@@ -1,16 +1,41 @@
-// Judges plans and counts busy ticks, and prints what each call answers. The cases are the lines of the file `stdin`, of which a line that starts with
-// `#` is a comment.
+// Judges plans, counts busy ticks and asks run lists, and prints what each call answers. The cases are the lines of the file `stdin`, of which a line that
+// starts with `#` is a comment.
 //
-// A line of judging has the table file, the launch tick, the keep list in bytes, and the run columns: starts, ends, tasks. A line of counting has the run
-// columns, the interval's first tick, and the tick behind its last. What is printed is the case's title, and the number and place of the answer; then of judging
-// the verdict and the counts kept and discarded, and of counting the sum.
-use base::MAX_RUNS;
+// A line of judging has the table file, the launch tick, the keep list in bytes, and the runs by their starts, ends and tasks. A line of counting has the
+// runs, the interval's first tick, and the tick behind its last. A line of asking has the runs, a tick, and an interval. What is printed is the case's
+// title, and the number and place of the answer; then of judging the verdict and the counts kept and discarded, of counting the sum, and of asking the run
+// at the tick, the first run that starts at it or after it, and the stretch that touches the interval.
+//
+// The runs of a case stand in an array, and its first runs are lent to the entry points as a list of records.
+ghost use Prim.Native.Nat.{_≤_};
+ghost use Rattle.records.specs.RecordColumns.{HeldColumns};
 use libc::STDIN_FILENO;
+use records::HELD_RUNS;
+use records::RunColumns;
 use schedule::Busy;
+use schedule::Found;
 use schedule::Judged;
+use schedule::Run;
+use schedule::Stretch;
 
-// The places of a run column: one more than the most runs.
-const PLACES: usize = MAX_RUNS + 1;
+// The runs of a case, from the field of their starts on.
+fn runs_at(line: &[u8], field: usize) -> RunColumns
+    requires { ⌜ field ≤ 4 ⌝ }
+    ensures { λ r. ⌜ HeldColumns r ⌝ }
+{
+    let mut starts = [0u32; HELD_RUNS];
+    let mut ends = [0u32; HELD_RUNS];
+    let mut tasks = [0u32; HELD_RUNS];
+    let count = cases::numbers(line, field, &mut starts);
+    cases::numbers(line, field + 1, &mut ends);
+    cases::numbers(line, field + 2, &mut tasks);
+    RunColumns {
+        count,
+        starts,
+        ends,
+        tasks,
+    }
+}
 
 // Prints the answer of judging.
 fn show_verdict(reply: Judged) {
@@ -27,22 +52,17 @@ fn show_verdict(reply: Judged) {
 fn judge(line: &[u8]) {
     let mut file = [0u8; 32];
     let mut marks = [0u8; 4];
-    let mut starts = [0u32; PLACES];
-    let mut ends = [0u32; PLACES];
-    let mut tasks = [0u32; PLACES];
     let length = cases::file(line, 1, &mut file);
     let launch = cases::number(line, 2);
     let kept = cases::bytes(line, 3, &mut marks);
-    let first = cases::numbers(line, 4, &mut starts);
-    let second = cases::numbers(line, 5, &mut ends);
-    let third = cases::numbers(line, 6, &mut tasks);
-    show_verdict(judging::judge(
+    let columns = runs_at(line, 4);
+    let rows = record_calls::rows_of(columns);
+    show_verdict(record_calls::judge_rows(
         &file[..length],
         launch,
         &marks[..kept],
-        &starts[..first],
-        &ends[..second],
-        &tasks[..third],
+        rows,
+        columns.count,
     ));
 }
 
@@ -56,19 +76,95 @@ fn show_sum(reply: Busy) {
 
 // A case of counting.
 fn count(line: &[u8]) {
-    let mut starts = [0u32; PLACES];
-    let mut ends = [0u32; PLACES];
-    let mut tasks = [0u32; PLACES];
-    let first = cases::numbers(line, 1, &mut starts);
-    let second = cases::numbers(line, 2, &mut ends);
-    let third = cases::numbers(line, 3, &mut tasks);
-    show_sum(busy::busy(
-        &starts[..first],
-        &ends[..second],
-        &tasks[..third],
-        cases::number(line, 4),
-        cases::number(line, 5),
-    ));
+    let columns = runs_at(line, 1);
+    let rows = record_calls::rows_of(columns);
+    let a = cases::number(line, 4);
+    let b = cases::number(line, 5);
+    let answers = record_calls::ask_rows(rows, columns.count, a, a, b);
+    let sum = answers.busy;
+    show_sum(sum);
+}
+
+// Prints the answer of a query for one run: number, place, 1 or 0 for a run or none, and the run.
+fn show_found(found: Found) {
+    let run = found.run();
+    cases::show(
+        b" # # #",
+        &[
+            found.number() as u64,
+            found.place() as u64,
+            found.is_one() as u64,
+        ],
+    );
+    cases::show(
+        b" # # #",
+        &[run.start as u64, run.end as u64, run.task as u64],
+    );
+}
+
+// A run has these numbers.
+fn is_run(run: Run, start: u32, end: u32, task: u32) -> bool {
+    if run.start != start {
+        return false;
+    }
+    if run.end != end {
+        return false;
+    }
+    run.task == task
+}
+
+// The runs that columns hold are those of a stretch of an array.
+fn are_runs(rows: [Run; HELD_RUNS], stretch: Stretch, part: RunColumns) -> bool {
+    let first = stretch.first;
+    let count = stretch.runs;
+    if part.count != count {
+        return false;
+    }
+    if HELD_RUNS < first {
+        return false;
+    }
+    if HELD_RUNS - first < count {
+        return false;
+    }
+    let mut i: usize = 0;
+    while i < count {
+        let run = rows[first + i];
+        if !is_run(run, part.starts[i], part.ends[i], part.tasks[i]) {
+            return false;
+        }
+        i += 1;
+    }
+    true
+}
+
+// Prints the runs that share a tick with the interval: the first index of their stretch and how many they are, and where they are not the runs of the
+// stretch, that they are others.
+fn show_stretch(rows: [Run; HELD_RUNS], stretch: Stretch, part: RunColumns) {
+    cases::show(b" # #", &[stretch.first as u64, part.count as u64]);
+    if !are_runs(rows, stretch, part) {
+        cases::text(b" other");
+    }
+    cases::text(b"\n");
+}
+
+// A case of asking.
+fn ask(line: &[u8]) {
+    let columns = runs_at(line, 1);
+    let rows = record_calls::rows_of(columns);
+    let tick = cases::number(line, 4);
+    let a = cases::number(line, 5);
+    let b = cases::number(line, 6);
+    let answers = record_calls::ask_rows(rows, columns.count, tick, a, b);
+    let check = answers.check;
+    cases::show(b" # # at", &[check.number() as u64, check.place() as u64]);
+    let at = answers.at;
+    show_found(at);
+    cases::text(b" from");
+    let from = answers.from;
+    show_found(from);
+    cases::text(b" touching");
+    let part = answers.touching;
+    show_stretch(rows, queries::stretch_held(columns, a, b), part);
 }
 
 // The case on a line that starts with a given byte.
@@ -79,8 +175,10 @@ fn case(start: u8, line: &[u8]) {
     cases::show_title(line);
     if start == b'j' {
         judge(line);
-    } else {
+    } else if start == b'b' {
         count(line);
+    } else {
+        ask(line);
     }
 }
 
