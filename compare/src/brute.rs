@@ -1,8 +1,10 @@
-//! The best plan of a small table, by trying every keep list. Nothing is shared with the reference but the types of table and task: ticks are counted here,
-//! a table's kind is looked up pair by pair for every cut, fitting is added up as the rules say, work is placed tick by tick, and whether a keep list
-//! has any running is found by matching ticks to tasks, which knows nothing of kinds, orders and deadlines that come first.
+//! The best plan of a small table, by trying every keep list, and the answers of a short run list, by looking at every tick. Nothing is shared with
+//! the reference but the types of table, task and run: ticks are counted here, a table's kind is looked up pair by pair for every cut, fitting is
+//! added up as the rules say, work is placed tick by tick, and whether a keep list has any running is found by matching ticks to tasks, which knows
+//! nothing of kinds, orders and deadlines that come first. Of a run list every tick is written down with the runs that hold it, and the answers are
+//! read from that.
 
-use crate::reference::{Table, Task};
+use crate::reference::{Run, Table, Task};
 
 /// The last tick of a day.
 const LAST_OF_DAY: u32 = 24 * 60 * 60 * 1000 - 1;
@@ -179,7 +181,7 @@ fn stretches(jobs: &[Job], ticks: &Holders) -> Vec<(u32, u32, u32)> {
 fn in_order(table: &Table, launch: u32, nested: bool) -> Vec<Job> {
     // The whole ticks of so many frames. A release waits for the frame to end, and where that is not on a tick, for the next one.
     let whole = |frames: u32| launch + frames * table.p / table.q;
-    let waits = |frames: u32| u32::from(frames * table.p % table.q != 0);
+    let waits = |frames: u32| u32::from(!(frames * table.p).is_multiple_of(table.q));
     let mut positions: Vec<usize> = (0..table.count as usize).collect();
     if nested {
         positions.sort_by_key(|&k| table.tasks[k].deadline - table.tasks[k].release);
@@ -258,4 +260,77 @@ pub fn best(table: &Table, launch: u32) -> Result<Answer, String> {
     let kept = jobs.iter().filter(|job| job.optional > 0 && marks[job.position] == 1).count() as u32;
     let ticks = if nested { in_nest(&jobs, &marks) } else { in_sequence(&jobs, &marks) };
     Ok(Ok(Best { marks, kept, discarded, runs: stretches(&jobs, &ticks) }))
+}
+
+/// The ticks of a small range, each with the indices of the runs that hold it. No run has a tick outside of the range.
+pub struct Board<'a> {
+    runs: &'a [Run],
+    first: u32,
+    holders: Vec<Vec<usize>>,
+}
+
+impl<'a> Board<'a> {
+    /// The board of a run list with so many ticks from a first one on. Ticks are counted in 64 bits, so that a range may reach the greatest number.
+    pub fn new(runs: &'a [Run], first: u32, ticks: usize) -> Board<'a> {
+        let holders = (0..ticks as u64)
+            .map(|i| {
+                let tick = u64::from(first) + i;
+                (0..runs.len()).filter(|&k| (u64::from(runs[k].start)..u64::from(runs[k].end)).contains(&tick)).collect()
+            })
+            .collect();
+        Board { runs, first, holders }
+    }
+
+    /// The ticks of the board.
+    pub fn ticks(&self) -> impl Iterator<Item = u32> + '_ {
+        (0..self.holders.len()).map(|i| self.first + i as u32)
+    }
+
+    /// The places on the board of the ticks from a to b.
+    fn places(&self, a: u32, b: u32) -> impl Iterator<Item = usize> + '_ {
+        (0..self.holders.len()).filter(move |&i| (a..b).contains(&(self.first + i as u32)))
+    }
+
+    /// The places on the board of the ticks that a run holds.
+    fn held(&self, k: usize) -> Vec<usize> {
+        (0..self.holders.len()).filter(|&i| self.holders[i].contains(&k)).collect()
+    }
+
+    /// The first run that holds no tick, or holds one that is not after all ticks of the run listed before it.
+    pub fn first_fault(&self) -> Option<usize> {
+        (0..self.runs.len()).find(|&k| {
+            let own = self.held(k);
+            let before = if k > 0 { self.held(k - 1) } else { vec![] };
+            own.is_empty() || own.iter().any(|tick| before.iter().any(|earlier| tick <= earlier))
+        })
+    }
+
+    /// The run that holds a tick, of a list without a fault.
+    pub fn run_at(&self, tick: u32) -> Option<Run> {
+        let at = self.ticks().position(|known| known == tick)?;
+        assert!(self.holders[at].len() <= 1, "a tick has one run at most");
+        self.holders[at].first().map(|&k| self.runs[k])
+    }
+
+    /// The first run that starts at a tick or after it, of a list without a fault: from there on the first run that holds a tick and not the one
+    /// before that tick. No run holds a tick before the board.
+    pub fn run_from(&self, tick: u32) -> Option<Run> {
+        let starting = |i: usize| self.holders[i].iter().find(|k| i == 0 || !self.holders[i - 1].contains(k));
+        let at = (0..self.holders.len()).find(|&i| self.first + i as u32 >= tick && starting(i).is_some())?;
+        starting(at).map(|&k| self.runs[k])
+    }
+
+    /// The first index and the number of the runs that hold some tick from a to b, of a list without a fault; both are 0 where there is none. The
+    /// indices go up by one.
+    pub fn touching(&self, a: u32, b: u32) -> (usize, usize) {
+        let mut found: Vec<usize> = self.places(a, b).flat_map(|i| self.holders[i].iter().copied()).collect();
+        found.dedup();
+        assert!(found.windows(2).all(|pair| pair[0] + 1 == pair[1]), "the runs are one stretch of the list");
+        (found.first().copied().unwrap_or(0), found.len())
+    }
+
+    /// The busy count from a to b, of any list: how often a run holds a tick.
+    pub fn busy(&self, a: u32, b: u32) -> u64 {
+        self.places(a, b).map(|i| self.holders[i].len() as u64).sum()
+    }
 }

@@ -1,7 +1,8 @@
-//! The six calls of the proved library, as include/planner.h declares them, each in a safe function; for `compare/before` also the planning of an
-//! earlier commit's library.
+//! The ten calls of the proved library, as include/planner.h declares them, each in a safe function; for `compare/before` also the planning, the
+//! judge and the busy count of an earlier commit's library.
 
-use crate::reference::{Plan, Refusal, Table, Verdict};
+use crate::reference::{Plan, Refusal, Run, Table, Verdict};
+use std::ops::Range;
 
 /// The reply of reading.
 #[repr(C)]
@@ -52,6 +53,32 @@ pub struct BusyCount {
     pub ticks: u64,
 }
 
+/// The reply of the check of a run list.
+#[repr(C)]
+#[derive(Clone, Copy, Debug, PartialEq, Eq)]
+pub struct Checked {
+    pub number: u32,
+    pub place: usize,
+}
+
+/// The reply of the queries for one run: it is 0 throughout where there is none.
+#[repr(C)]
+#[derive(Clone, Copy, Debug, PartialEq, Eq)]
+pub struct Found {
+    pub number: u32,
+    pub place: usize,
+    pub found: bool,
+    pub run: Run,
+}
+
+/// The reply of the query for an interval: a stretch of the caller's list, both parts 0 where it is empty.
+#[repr(C)]
+#[derive(Clone, Copy, Debug, PartialEq, Eq)]
+pub struct Part {
+    pub first: usize,
+    pub runs: usize,
+}
+
 extern "C" {
     fn planner_read(file: *const u8, file_length: usize) -> TableRead;
     fn planner_write(table: Table, out: *mut u8, out_length: usize) -> Written;
@@ -75,23 +102,14 @@ extern "C" {
         launch: u32,
         marks: *const u8,
         marks_length: usize,
-        starts: *const u32,
-        starts_length: usize,
-        ends: *const u32,
-        ends_length: usize,
-        tasks: *const u32,
-        tasks_length: usize,
+        runs: *const Run,
+        runs_length: usize,
     ) -> Judged;
-    fn planner_busy(
-        starts: *const u32,
-        starts_length: usize,
-        ends: *const u32,
-        ends_length: usize,
-        tasks: *const u32,
-        tasks_length: usize,
-        a: u32,
-        b: u32,
-    ) -> BusyCount;
+    fn planner_busy(runs: *const Run, runs_length: usize, a: u32, b: u32) -> BusyCount;
+    fn planner_check_runs(runs: *const Run, runs_length: usize) -> Checked;
+    fn planner_run_at(runs: *const Run, runs_length: usize, tick: u32) -> Found;
+    fn planner_run_from(runs: *const Run, runs_length: usize, tick: u32) -> Found;
+    fn planner_runs_touching(runs: *const Run, runs_length: usize, a: u32, b: u32) -> Part;
 }
 
 // Planning by the library of an earlier commit: compare/before puts before_ before its names. The header declares it there as it does here.
@@ -110,6 +128,49 @@ extern "C" {
         tasks: *mut u32,
         tasks_length: usize,
     ) -> Planned;
+}
+
+// Its judge and its busy count, where it takes run lists as records: the header declares them there as it does here.
+#[cfg(all(feature = "before", not(feature = "before-columns")))]
+extern "C" {
+    fn before_planner_judge(
+        file: *const u8,
+        file_length: usize,
+        launch: u32,
+        marks: *const u8,
+        marks_length: usize,
+        runs: *const Run,
+        runs_length: usize,
+    ) -> Judged;
+    fn before_planner_busy(runs: *const Run, runs_length: usize, a: u32, b: u32) -> BusyCount;
+}
+
+// The same where it takes them as three columns.
+#[cfg(feature = "before-columns")]
+extern "C" {
+    fn before_planner_judge(
+        file: *const u8,
+        file_length: usize,
+        launch: u32,
+        marks: *const u8,
+        marks_length: usize,
+        starts: *const u32,
+        starts_length: usize,
+        ends: *const u32,
+        ends_length: usize,
+        tasks: *const u32,
+        tasks_length: usize,
+    ) -> Judged;
+    fn before_planner_busy(
+        starts: *const u32,
+        starts_length: usize,
+        ends: *const u32,
+        ends_length: usize,
+        tasks: *const u32,
+        tasks_length: usize,
+        a: u32,
+        b: u32,
+    ) -> BusyCount;
 }
 
 /// Planning as a library exports it.
@@ -168,9 +229,21 @@ unsafe fn plan_by(call: PlanCall, file: &[u8], launch: u32, marks: &mut [u8], st
 }
 
 /// Judging at a launch tick.
-pub fn judge(file: &[u8], launch: u32, marks: &[u8], starts: &[u32], ends: &[u32], tasks: &[u32]) -> Judged {
+pub fn judge(file: &[u8], launch: u32, marks: &[u8], runs: &[Run]) -> Judged {
+    unsafe { planner_judge(file.as_ptr(), file.len(), launch, marks.as_ptr(), marks.len(), runs.as_ptr(), runs.len()) }
+}
+
+/// Judging at a launch tick by the library of the earlier commit, which takes records.
+#[cfg(all(feature = "before", not(feature = "before-columns")))]
+pub fn judge_before(file: &[u8], launch: u32, marks: &[u8], runs: &[Run]) -> Judged {
+    unsafe { before_planner_judge(file.as_ptr(), file.len(), launch, marks.as_ptr(), marks.len(), runs.as_ptr(), runs.len()) }
+}
+
+/// Judging at a launch tick by the library of the earlier commit, which takes columns.
+#[cfg(feature = "before-columns")]
+pub fn judge_before(file: &[u8], launch: u32, marks: &[u8], starts: &[u32], ends: &[u32], tasks: &[u32]) -> Judged {
     unsafe {
-        planner_judge(
+        before_planner_judge(
             file.as_ptr(),
             file.len(),
             launch,
@@ -187,8 +260,40 @@ pub fn judge(file: &[u8], launch: u32, marks: &[u8], starts: &[u32], ends: &[u32
 }
 
 /// The busy count of the interval from a to b.
-pub fn busy(starts: &[u32], ends: &[u32], tasks: &[u32], a: u32, b: u32) -> BusyCount {
-    unsafe { planner_busy(starts.as_ptr(), starts.len(), ends.as_ptr(), ends.len(), tasks.as_ptr(), tasks.len(), a, b) }
+pub fn busy(runs: &[Run], a: u32, b: u32) -> BusyCount {
+    unsafe { planner_busy(runs.as_ptr(), runs.len(), a, b) }
+}
+
+/// The busy count by the library of the earlier commit, which takes records.
+#[cfg(all(feature = "before", not(feature = "before-columns")))]
+pub fn busy_before(runs: &[Run], a: u32, b: u32) -> BusyCount {
+    unsafe { before_planner_busy(runs.as_ptr(), runs.len(), a, b) }
+}
+
+/// The busy count by the library of the earlier commit, which takes columns.
+#[cfg(feature = "before-columns")]
+pub fn busy_before(starts: &[u32], ends: &[u32], tasks: &[u32], a: u32, b: u32) -> BusyCount {
+    unsafe { before_planner_busy(starts.as_ptr(), starts.len(), ends.as_ptr(), ends.len(), tasks.as_ptr(), tasks.len(), a, b) }
+}
+
+/// What the queries refuse of a run list.
+pub fn check_runs(runs: &[Run]) -> Checked {
+    unsafe { planner_check_runs(runs.as_ptr(), runs.len()) }
+}
+
+/// The run that holds a tick.
+pub fn run_at(runs: &[Run], tick: u32) -> Found {
+    unsafe { planner_run_at(runs.as_ptr(), runs.len(), tick) }
+}
+
+/// The first run that starts at a tick or after it.
+pub fn run_from(runs: &[Run], tick: u32) -> Found {
+    unsafe { planner_run_from(runs.as_ptr(), runs.len(), tick) }
+}
+
+/// The runs that share a tick with the interval from a to b.
+pub fn runs_touching(runs: &[Run], a: u32, b: u32) -> Part {
+    unsafe { planner_runs_touching(runs.as_ptr(), runs.len(), a, b) }
 }
 
 // The whole reply that a call owes for what the reference says: parts that are not named are 0.
@@ -238,7 +343,32 @@ impl From<Result<u64, Refusal>> for BusyCount {
     }
 }
 
-/// Where the six calls are, for calling them on a stack of one's own.
+impl From<Result<(), Refusal>> for Checked {
+    fn from(said: Result<(), Refusal>) -> Checked {
+        match said {
+            Ok(()) => Checked { number: 0, place: 0 },
+            Err(Refusal { number, place }) => Checked { number, place },
+        }
+    }
+}
+
+impl From<Result<Option<Run>, Refusal>> for Found {
+    fn from(said: Result<Option<Run>, Refusal>) -> Found {
+        match said {
+            Ok(Some(run)) => Found { number: 0, place: 0, found: true, run },
+            Ok(None) => Found { number: 0, place: 0, found: false, run: Run::default() },
+            Err(Refusal { number, place }) => Found { number, place, found: false, run: Run::default() },
+        }
+    }
+}
+
+impl From<Range<usize>> for Part {
+    fn from(said: Range<usize>) -> Part {
+        Part { first: said.start, runs: said.len() }
+    }
+}
+
+/// Where the ten calls are, for calling them on a stack of one's own.
 pub(crate) struct Addresses {
     pub read: usize,
     pub write: usize,
@@ -246,9 +376,13 @@ pub(crate) struct Addresses {
     pub plan: usize,
     pub judge: usize,
     pub busy: usize,
+    pub check_runs: usize,
+    pub run_at: usize,
+    pub run_from: usize,
+    pub runs_touching: usize,
 }
 
-/// The addresses of the six calls.
+/// The addresses of the ten calls.
 pub(crate) fn addresses() -> Addresses {
     Addresses {
         read: planner_read as *const () as usize,
@@ -257,5 +391,9 @@ pub(crate) fn addresses() -> Addresses {
         plan: planner_plan as *const () as usize,
         judge: planner_judge as *const () as usize,
         busy: planner_busy as *const () as usize,
+        check_runs: planner_check_runs as *const () as usize,
+        run_at: planner_run_at as *const () as usize,
+        run_from: planner_run_from as *const () as usize,
+        runs_touching: planner_runs_touching as *const () as usize,
     }
 }

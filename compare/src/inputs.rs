@@ -1,7 +1,7 @@
 //! Tables, files and run lists made at random: valid ones, and ones that are damaged.
 
 use crate::random::Random;
-use crate::reference::{self, Clock, Kind, Table, Task, LAST_FRAME, MAX_LAUNCH, MAX_PERIOD, MAX_TASKS, MAX_TICKS};
+use crate::reference::{self, Clock, Kind, Run, Table, Task, LAST_FRAME, MAX_LAUNCH, MAX_PERIOD, MAX_RUNS, MAX_TASKS, MAX_TICKS};
 
 /// How the lengths of a table's parts compare with the ticks that its windows have.
 #[derive(Clone, Copy, Debug, PartialEq, Eq)]
@@ -388,34 +388,10 @@ pub fn lent_length(random: &mut Random, needed: usize) -> usize {
     }
 }
 
-/// Run columns.
-#[derive(Clone, Debug, Default, PartialEq, Eq)]
-pub struct Columns {
-    pub starts: Vec<u32>,
-    pub ends: Vec<u32>,
-    pub tasks: Vec<u32>,
-}
-
-impl Columns {
-    /// Adds a run behind the others.
-    pub fn push(&mut self, (start, end, task): (u32, u32, u32)) {
-        self.starts.push(start);
-        self.ends.push(end);
-        self.tasks.push(task);
-    }
-
-    /// The columns of a list of runs.
-    fn from_runs(runs: &[(u32, u32, u32)]) -> Columns {
-        let mut columns = Columns::default();
-        runs.iter().for_each(|&run| columns.push(run));
-        columns
-    }
-}
-
 /// A running of a table at a launch tick that need not follow the placing rule, for a keep list made by dropping parts of the planner's own at random.
 /// The list is given as marks. Nested tasks get the earliest free ticks, in nest order; similar ones run as late as they can, from the last in similar
 /// order back.
-fn other_running(random: &mut Random, table: &Table, launch: u32, marks: &mut [u8]) -> Vec<(u32, u32, u32)> {
+fn other_running(random: &mut Random, table: &Table, launch: u32, marks: &mut [u8]) -> Vec<Run> {
     for mark in marks.iter_mut() {
         if random.once_in(4) {
             *mark = 0;
@@ -439,7 +415,7 @@ fn job(table: &Table, launch: u32, marks: &[u8], k: usize) -> (u32, u32, u32) {
 }
 
 /// Each task from the last of an order back runs in one stretch, as late as it can before those behind it.
-fn latest_runs(table: &Table, launch: u32, marks: &[u8], order: &[usize]) -> Vec<(u32, u32, u32)> {
+fn latest_runs(table: &Table, launch: u32, marks: &[u8], order: &[usize]) -> Vec<Run> {
     let mut runs = Vec::new();
     let mut until = u32::MAX;
     for &k in order.iter().rev() {
@@ -447,7 +423,7 @@ fn latest_runs(table: &Table, launch: u32, marks: &[u8], order: &[usize]) -> Vec
         if work > 0 {
             let end = until.min(deadline);
             until = end.saturating_sub(work);
-            runs.push((until, end, k as u32));
+            runs.push(Run { start: until, end, task: k as u32 });
         }
     }
     runs.reverse();
@@ -455,21 +431,21 @@ fn latest_runs(table: &Table, launch: u32, marks: &[u8], order: &[usize]) -> Vec
 }
 
 /// Each task of an order gets the earliest free ticks of its window.
-fn earliest_runs(table: &Table, launch: u32, marks: &[u8], order: &[usize]) -> Vec<(u32, u32, u32)> {
-    let mut runs: Vec<(u32, u32, u32)> = Vec::new();
+fn earliest_runs(table: &Table, launch: u32, marks: &[u8], order: &[usize]) -> Vec<Run> {
+    let mut runs: Vec<Run> = Vec::new();
     for &k in order {
         let (mut work, mut from, deadline) = job(table, launch, marks, k);
         let mut at = 0;
         while work > 0 && from < deadline {
-            let to = runs.get(at).map_or(deadline, |run| run.0);
+            let to = runs.get(at).map_or(deadline, |run| run.start);
             let taken = work.min(to.saturating_sub(from));
             if taken > 0 {
-                runs.insert(at, (from, from + taken, k as u32));
+                runs.insert(at, Run { start: from, end: from + taken, task: k as u32 });
                 work -= taken;
                 at += 1;
             }
             match runs.get(at) {
-                Some(run) => from = run.1,
+                Some(run) => from = run.end,
                 None => break,
             }
             at += 1;
@@ -484,7 +460,7 @@ pub struct Judgement {
     pub file: Vec<u8>,
     pub launch: u32,
     pub marks: Vec<u8>,
-    pub columns: Columns,
+    pub runs: Vec<Run>,
 }
 
 /// The launch tick for the judge of what was made at a launch tick: mostly the same, else the one beside it, 0 or any.
@@ -498,7 +474,7 @@ fn judged_launch(random: &mut Random, made: u32) -> u32 {
     }
 }
 
-/// A file, a launch tick, a keep list and run columns for the judge: plans, other runnings, runs for tables that have no plan, and damaged ones, made
+/// A file, a launch tick, a keep list and a run list for the judge: plans, other runnings, runs for tables that have no plan, and damaged ones, made
 /// at the launch tick or at another one.
 pub fn judgement(random: &mut Random) -> Judgement {
     let mut file = file(random);
@@ -507,16 +483,16 @@ pub fn judgement(random: &mut Random) -> Judgement {
     let Ok(table) = reference::read(&file) else {
         let n = random.up_to(70) as usize;
         let runs = random.up_to(70) as usize;
-        return Judgement { file, launch, marks: random.bytes(n), columns: random_columns(random, runs) };
+        return Judgement { file, launch, marks: random.bytes(n), runs: random_runs(random, runs) };
     };
     let n = table.count as usize;
     let mut marks = vec![0; n];
     let (mut starts, mut ends, mut tasks) = (vec![0; 2 * n - 1], vec![0; 2 * n - 1], vec![0; 2 * n - 1]);
     let planned = reference::plan(&file, made, &mut marks, &mut starts, &mut ends, &mut tasks);
-    let mut runs: Vec<(u32, u32, u32)> = match planned {
-        Ok(plan) => (0..plan.runs).map(|i| (starts[i], ends[i], tasks[i])).collect(),
+    let mut runs: Vec<Run> = match planned {
+        Ok(plan) => (0..plan.runs).map(|i| Run { start: starts[i], end: ends[i], task: tasks[i] }).collect(),
         Err(_) if random.once_in(2) => latest_runs(&table, made, &marks, &(0..n).collect::<Vec<usize>>()),
-        Err(_) => (0..random.up_to(9)).map(|_| (random.any(), random.any(), random.up_to(n as u32))).collect(),
+        Err(_) => (0..random.up_to(9)).map(|_| Run { start: random.any(), end: random.any(), task: random.up_to(n as u32) }).collect(),
     };
     if planned.is_ok() && random.once_in(3) {
         runs = other_running(random, &table, made, &mut marks);
@@ -542,90 +518,77 @@ pub fn judgement(random: &mut Random) -> Judgement {
         let length = random.pick(&[0, n - 1, n + 1, 64, 65]);
         marks.resize(length, random.pick(&[0, 1, 2]));
     }
-    let mut columns = Columns::from_runs(&runs);
-    if random.once_in(20) {
-        unequal(random, &mut columns);
+    if random.once_in(30) {
+        // Around the limit: with more runs behind the others the judge says no, or 13.
+        runs.resize(random.pick(&[MAX_RUNS - 1, MAX_RUNS, MAX_RUNS + 1, MAX_RUNS + 1, MAX_RUNS + 100]), Run { start: 7, end: 8, task: 0 });
     }
     if random.once_in(40) {
         damage(random, &mut file);
     }
-    Judgement { file, launch, marks, columns }
+    Judgement { file, launch, marks, runs }
 }
 
 /// Cuts runs in two; the two then touch.
-fn split(random: &mut Random, runs: &mut Vec<(u32, u32, u32)>) {
+fn split(random: &mut Random, runs: &mut Vec<Run>) {
     for _ in 0..random.between(1, 5) {
         if runs.is_empty() {
             return;
         }
         let at = random.index(runs.len());
-        let (start, end, task) = runs[at];
+        let Run { start, end, task } = runs[at];
         if end.saturating_sub(start) > 1 {
             let middle = random.between(start + 1, end - 1);
-            runs[at].1 = middle;
-            runs.insert(at + 1, (middle, end, task));
+            runs[at].end = middle;
+            runs.insert(at + 1, Run { start: middle, end, task });
         }
     }
 }
 
 /// Damages a run list of a table of n tasks in one place.
-fn damage_runs(random: &mut Random, runs: &mut Vec<(u32, u32, u32)>, n: u32) {
+fn damage_runs(random: &mut Random, runs: &mut Vec<Run>, n: u32) {
     if runs.is_empty() {
-        runs.push((random.any(), random.any(), random.up_to(n)));
+        runs.push(Run { start: random.any(), end: random.any(), task: random.up_to(n) });
         return;
     }
     let at = random.index(runs.len());
     let other = random.index(runs.len());
     match random.up_to(11) {
-        0 => runs[at].0 = runs[at].0.wrapping_sub(1),
-        1 => runs[at].0 = runs[at].0.wrapping_add(1),
-        2 => runs[at].1 = runs[at].1.saturating_sub(1),
-        3 => runs[at].1 = runs[at].1.wrapping_add(1),
-        4 => runs[at].2 = random.pick(&[0, n - 1, n, n + 1, 64, u32::MAX]),
+        0 => runs[at].start = runs[at].start.wrapping_sub(1),
+        1 => runs[at].start = runs[at].start.wrapping_add(1),
+        2 => runs[at].end = runs[at].end.saturating_sub(1),
+        3 => runs[at].end = runs[at].end.wrapping_add(1),
+        4 => runs[at].task = random.pick(&[0, n - 1, n, n + 1, 64, u32::MAX]),
         5 => runs.swap(at, other),
         6 => {
             runs.remove(at);
         }
         7 => runs.insert(at, runs[other]),
-        8 => runs[at].1 = runs[at].0,
-        9 => runs[at] = (runs[at].1, runs[at].0, runs[at].2),
+        8 => runs[at].end = runs[at].start,
+        9 => runs[at] = reversed(runs[at]),
         10 => {
             // Later or earlier.
             let by = random.pick(&[1, 2, 3, -1, -2, -3]);
-            runs[at].0 = runs[at].0.wrapping_add_signed(by);
-            runs[at].1 = runs[at].1.wrapping_add_signed(by);
+            runs[at].start = runs[at].start.wrapping_add_signed(by);
+            runs[at].end = runs[at].end.wrapping_add_signed(by);
         }
         _ => {
-            let task = runs[at].2;
-            runs[at].2 = runs[other].2;
-            runs[other].2 = task;
+            let task = runs[at].task;
+            runs[at].task = runs[other].task;
+            runs[other].task = task;
         }
     }
 }
 
-/// Makes the columns unequal in length, or all longer than the limit.
-fn unequal(random: &mut Random, columns: &mut Columns) {
-    let length = columns.starts.len();
-    let other = random.pick(&[0, length.saturating_sub(1), length + 1, 4096, 4097]);
-    match random.up_to(3) {
-        0 => columns.starts.resize(other, 7),
-        1 => columns.ends.resize(other, 7),
-        2 => columns.tasks.resize(other, 0),
-        _ => {
-            let all = random.pick(&[4095, 4096, 4097]);
-            columns.starts.resize(all, 7);
-            columns.ends.resize(all, 8);
-            columns.tasks.resize(all, 0);
-        }
-    }
+/// The run with its start and its end exchanged.
+fn reversed(run: Run) -> Run {
+    Run { start: run.end, end: run.start, task: run.task }
 }
 
-/// Run columns of any content.
-pub fn random_columns(random: &mut Random, length: usize) -> Columns {
-    let mut columns = Columns::default();
+/// A run list of any content.
+fn random_runs(random: &mut Random, length: usize) -> Vec<Run> {
     let ordered = random.once_in(2);
     let mut from = 0u32;
-    for _ in 0..length {
+    let mut run = || {
         let (start, end) = if ordered {
             let start = from.saturating_add(random.up_to(5));
             from = start.saturating_add(random.up_to(9));
@@ -633,26 +596,125 @@ pub fn random_columns(random: &mut Random, length: usize) -> Columns {
         } else {
             (random.any(), random.any())
         };
-        columns.push((start, end, random.up_to(70)));
-    }
-    columns
+        Run { start, end, task: random.up_to(70) }
+    };
+    (0..length).map(|_| run()).collect()
 }
 
-/// Run columns for the busy count, of every length up to beyond the limit.
-pub fn busy_columns(random: &mut Random) -> Columns {
-    let length = match random.up_to(19) {
-        0 => random.pick(&[4095, 4096, 4097, 5000]),
-        1 => random.up_to(4096) as usize,
-        2..=4 => random.up_to(8) as usize,
+/// How many runs a list for the busy count or the queries has: few mostly, and all numbers up to beyond the limit.
+fn run_count(random: &mut Random) -> usize {
+    match random.up_to(19) {
+        0 => random.pick(&[MAX_RUNS - 1, MAX_RUNS, MAX_RUNS, MAX_RUNS + 1, MAX_RUNS + 1, MAX_RUNS + 2, 5000, 8192]),
+        1 => random.up_to(MAX_RUNS as u32 + 100) as usize,
+        2..=5 => random.up_to(8) as usize,
         _ => random.up_to(130) as usize,
+    }
+}
+
+/// A run list as the queries accept it, of any length: every run has a tick, and none starts before the one listed before it ends. In some lists all
+/// runs touch; some begin at tick 0, and some end at the greatest number there is. The task numbers are any.
+fn ordered_runs(random: &mut Random, length: usize) -> Vec<Run> {
+    // So wide that as many runs and gaps stay below the greatest number.
+    let widest = u32::MAX / (2 * length as u32 + 1);
+    let longest = random.pick(&[1, 2, 3, 9, 1000, widest]).min(widest);
+    let gap = random.pick(&[0, 0, 1, 2, 9, 1000, widest]).min(widest);
+    let mut from = 0;
+    let mut run = || {
+        let start = from + random.up_to(gap);
+        from = start + random.between(1, longest);
+        Run { start, end: from, task: if random.once_in(8) { random.any() } else { random.up_to(63) } }
     };
-    let mut columns = random_columns(random, length);
+    let mut runs: Vec<Run> = (0..length).map(|_| run()).collect();
+    // All of them later, as far as there are numbers.
+    let room = u32::MAX - from;
+    let later = match random.up_to(5) {
+        0..=2 => 0,
+        3 => room,
+        4 => random.any().min(room),
+        _ => random.up_to(room),
+    };
+    for run in &mut runs {
+        run.start += later;
+        run.end += later;
+    }
+    runs
+}
+
+/// Makes one run empty or reversed, or lets it overlap another. The list was in order and has a run.
+fn disorder(random: &mut Random, runs: &mut [Run]) {
+    let at = random.index(runs.len());
+    let other = random.index(runs.len());
+    match random.up_to(6) {
+        0 => runs[at].end = runs[at].start,
+        1 => runs[at] = reversed(runs[at]),
+        // A tick before the previous end.
+        2 if at > 0 => runs[at].start = runs[at - 1].end.saturating_sub(1),
+        // A previous end that is a tick after the start.
+        3 if at > 0 => runs[at - 1].end = runs[at].start.saturating_add(1),
+        // Somewhere before the previous end.
+        4 => runs[at].start = random.up_to(runs[at].start),
+        5 => runs.swap(at, other),
+        _ => (runs[at].start, runs[at].end) = (random.any(), random.any()),
+    }
+}
+
+/// A run list for the busy count and the queries, of every length up to beyond the limit: more than half of them in order, the others with one or two
+/// runs out of order, or of any content.
+pub fn run_list(random: &mut Random) -> Vec<Run> {
+    let length = run_count(random);
     if random.once_in(50) {
-        columns.starts.iter_mut().for_each(|start| *start = 0);
-        columns.ends.iter_mut().for_each(|end| *end = u32::MAX);
+        // Every run holds all ticks that a run can hold.
+        return vec![Run { start: 0, end: u32::MAX, task: random.any() }; length];
     }
-    if random.once_in(12) {
-        unequal(random, &mut columns);
+    if random.once_in(8) {
+        return random_runs(random, length);
     }
-    columns
+    let mut runs = ordered_runs(random, length);
+    if random.once_in(3) && length > 0 {
+        for _ in 0..random.between(1, 2) {
+            disorder(random, &mut runs);
+        }
+    }
+    runs
+}
+
+/// A tick to ask a run list for: at a start or an end or beside one, at the ends of the numbers, or any.
+pub fn tick(random: &mut Random, runs: &[Run]) -> u32 {
+    if runs.is_empty() || random.once_in(8) {
+        return random.any();
+    }
+    let run = runs[random.index(runs.len())];
+    match random.up_to(9) {
+        0 => random.pick(&[0, 1, u32::MAX - 1, u32::MAX]),
+        1 => random.pick(&[runs[0].start, runs[runs.len() - 1].end]),
+        2 => random.up_to(runs[runs.len() - 1].end),
+        3..=5 => run.start.wrapping_add_signed(random.pick(&[-1, 0, 0, 1])),
+        6..=8 => run.end.wrapping_add_signed(random.pick(&[-1, 0, 0, 1])),
+        _ => random.between(run.start.min(run.end), run.start.max(run.end)),
+    }
+}
+
+/// An interval to ask a run list for: its two ends are ticks as above, mostly in order, some equal, some not in order.
+pub fn interval(random: &mut Random, runs: &[Run]) -> (u32, u32) {
+    let (a, b) = (tick(random, runs), tick(random, runs));
+    match random.up_to(9) {
+        0 => (a, a),
+        1 => (a, a.wrapping_add(1)),
+        2..=3 => (a, b),
+        _ => (a.min(b), a.max(b)),
+    }
+}
+
+/// A run list of few runs for looking at every tick: all starts and ends are among so many ticks from a first one on. Most lists are in order.
+pub fn short_list(random: &mut Random, first: u32, ticks: u32) -> Vec<Run> {
+    let length = random.up_to(7) as usize;
+    let mut ends: Vec<u32> = (0..2 * length).map(|_| first + random.up_to(ticks - 1)).collect();
+    if random.up_to(3) > 0 {
+        ends.sort_unstable();
+    }
+    let mut runs: Vec<Run> = ends.chunks(2).map(|pair| Run { start: pair[0], end: pair[1], task: random.up_to(3) }).collect();
+    if random.up_to(7) > 0 {
+        runs.retain(|run| run.start < run.end);
+    }
+    runs
 }

@@ -38,6 +38,12 @@ fn batch_size(call: &mut dyn FnMut()) -> u32 {
     calls
 }
 
+/// The microseconds of one call in each of so many batches.
+pub fn alone(batches: usize, mut call: impl FnMut()) -> Vec<f64> {
+    let calls = batch_size(&mut call);
+    (0..batches).map(|_| time(calls, &mut call)).collect()
+}
+
 /// The microseconds of one call in each of so many batches of both sides. The sides take turns, and which of them goes first changes from pair to
 /// pair, so that a machine that gets faster or slower favours none.
 pub fn in_turn(batches: usize, mut one: impl FnMut(), mut other: impl FnMut()) -> (Vec<f64>, Vec<f64>) {

@@ -1,8 +1,9 @@
-//! The independent implementation: reading, writing, moving, planning, judging and the busy count, written from the rules of documents 01 and 02
-//! (requests 1 to 3) and not from the proved library. Only std, no unsafe code.
+//! The independent implementation: reading, writing, moving, planning, judging, the busy count and the queries of a run list, written from the rules
+//! of documents 01 and 02 (requests 1 to 5) and not from the proved library. Only std, no unsafe code.
 
 use std::cmp::Ordering;
 use std::collections::VecDeque;
+use std::ops::Range;
 
 pub const MAX_TASKS: usize = 64;
 pub const MAX_RUNS: usize = 4096;
@@ -50,6 +51,22 @@ impl Table {
     /// The frame clock of the table's period at a launch tick.
     pub fn clock(&self, launch: u32) -> Clock {
         Clock { p: self.p, q: self.q, launch }
+    }
+}
+
+/// A run: the ticks from its start, included, to its end, excluded, and the task that has them.
+#[repr(C)]
+#[derive(Clone, Copy, Debug, Default, PartialEq, Eq)]
+pub struct Run {
+    pub start: u32,
+    pub end: u32,
+    pub task: u32,
+}
+
+impl From<(u32, u32, u32)> for Run {
+    /// The run of a start, an end and a task.
+    fn from((start, end, task): (u32, u32, u32)) -> Run {
+        Run { start, end, task }
     }
 }
 
@@ -494,14 +511,6 @@ fn choose_similar(jobs: &[Job]) -> [bool; MAX_TASKS] {
     kept
 }
 
-/// A stretch of ticks and the task that has them.
-#[derive(Clone, Copy)]
-struct Run {
-    start: u32,
-    end: u32,
-    task: u32,
-}
-
 /// The free stretches of a window, by start; no two of them touch.
 struct Free {
     window: (u32, u32),
@@ -617,8 +626,8 @@ pub fn plan(file: &[u8], launch: u32, marks: &mut [u8], starts: &mut [u32], ends
 // ---- judging and the busy count
 
 /// Refusal 13.
-fn check_columns(starts: &[u32], ends: &[u32], tasks: &[u32]) -> Result<(), Refusal> {
-    if starts.len() > MAX_RUNS || ends.len() != starts.len() || tasks.len() != starts.len() {
+fn check_count(runs: &[Run]) -> Result<(), Refusal> {
+    if runs.len() > MAX_RUNS {
         return refuse(13, 0);
     }
     Ok(())
@@ -626,7 +635,7 @@ fn check_columns(starts: &[u32], ends: &[u32], tasks: &[u32]) -> Result<(), Refu
 
 /// The runs follow one another in time, none is empty, each is inside the window that its task has at the launch tick, and each task's runs total its
 /// work.
-fn is_running(table: &Table, launch: u32, marks: &[u8], starts: &[u32], ends: &[u32], tasks: &[u32]) -> bool {
+fn is_running(table: &Table, launch: u32, marks: &[u8], runs: &[Run]) -> bool {
     let clock = table.clock(launch);
     let mut windows = [(0, 0); MAX_TASKS];
     let mut missing = [0; MAX_TASKS];
@@ -636,7 +645,7 @@ fn is_running(table: &Table, launch: u32, marks: &[u8], starts: &[u32], ends: &[
     }
     let n = table.count as usize;
     let mut last_end = 0;
-    for ((&start, &end), &task) in starts.iter().zip(ends).zip(tasks) {
+    for &Run { start, end, task } in runs {
         let task = task as usize;
         if start >= end || start < last_end || task >= n {
             return false;
@@ -652,7 +661,7 @@ fn is_running(table: &Table, launch: u32, marks: &[u8], starts: &[u32], ends: &[
 }
 
 /// Judging at a launch tick.
-pub fn judge(file: &[u8], launch: u32, marks: &[u8], starts: &[u32], ends: &[u32], tasks: &[u32]) -> Result<Verdict, Refusal> {
+pub fn judge(file: &[u8], launch: u32, marks: &[u8], runs: &[Run]) -> Result<Verdict, Refusal> {
     let table = read(file)?;
     check_launch(launch)?;
     let n = table.count as usize;
@@ -662,8 +671,8 @@ pub fn judge(file: &[u8], launch: u32, marks: &[u8], starts: &[u32], ends: &[u32
     if let Some(k) = marks.iter().position(|&mark| mark > 1) {
         return refuse(11, k);
     }
-    check_columns(starts, ends, tasks)?;
-    if !is_running(&table, launch, marks, starts, ends, tasks) {
+    check_count(runs)?;
+    if !is_running(&table, launch, marks, runs) {
         return Ok(Verdict { yes: false, kept: 0, discarded: 0 });
     }
     let (mut kept, mut discarded) = (0, 0);
@@ -677,9 +686,53 @@ pub fn judge(file: &[u8], launch: u32, marks: &[u8], starts: &[u32], ends: &[u32
 }
 
 /// The busy count of the interval from a to b.
-pub fn busy(starts: &[u32], ends: &[u32], tasks: &[u32], a: u32, b: u32) -> Result<u64, Refusal> {
-    check_columns(starts, ends, tasks)?;
+pub fn busy(runs: &[Run], a: u32, b: u32) -> Result<u64, Refusal> {
+    check_count(runs)?;
     // Where a is not below b, or a start not below its end, the lesser end is not above the greater start: the shared ticks are 0.
-    let shared = starts.iter().zip(ends).map(|(&start, &end)| u64::from(end.min(b).saturating_sub(start.max(a))));
+    let shared = runs.iter().map(|run| u64::from(run.end.min(b).saturating_sub(run.start.max(a))));
     Ok(shared.sum())
+}
+
+// ---- the queries of a run list
+
+/// Refusals 13 and 15: what the queries refuse of a list.
+pub fn check_runs(runs: &[Run]) -> Result<(), Refusal> {
+    check_count(runs)?;
+    // No start lies before 0, so the first run may have any.
+    let mut last_end = 0;
+    for (i, run) in runs.iter().enumerate() {
+        if run.start >= run.end || run.start < last_end {
+            return refuse(15, i);
+        }
+        last_end = run.end;
+    }
+    Ok(())
+}
+
+/// The run that holds a tick, if one does: the first that has not ended by then, if it has begun.
+pub fn run_at(runs: &[Run], tick: u32) -> Result<Option<Run>, Refusal> {
+    check_runs(runs)?;
+    let first = runs.partition_point(|run| run.end <= tick);
+    Ok(runs.get(first).copied().filter(|run| run.start <= tick))
+}
+
+/// The first run that starts at a tick or after it, if one does.
+pub fn run_from(runs: &[Run], tick: u32) -> Result<Option<Run>, Refusal> {
+    check_runs(runs)?;
+    let first = runs.partition_point(|run| run.start < tick);
+    Ok(runs.get(first).copied())
+}
+
+/// The indices of the runs that share a tick with the interval from a to b: those that have not ended by a and begin before b. An empty stretch,
+/// which is also the answer to a list that is refused, is 0..0.
+pub fn runs_touching(runs: &[Run], a: u32, b: u32) -> Range<usize> {
+    if a >= b || check_runs(runs).is_err() {
+        return 0..0;
+    }
+    let first = runs.partition_point(|run| run.end <= a);
+    let touching = runs[first..].partition_point(|run| run.start < b);
+    match touching {
+        0 => 0..0,
+        _ => first..first + touching,
+    }
 }

@@ -1,8 +1,8 @@
 //! How much stack a call of the proved library uses: it is run on an area of its own, painted beforehand, and the lowest byte that changed is found.
 //! x86-64 only, as the archive is.
 
-use crate::ffi::{self, BusyCount, Judged, Planned, TableRead, Written};
-use crate::reference::Table;
+use crate::ffi::{self, BusyCount, Found, Judged, Planned, TableRead, Written};
+use crate::reference::{Run, Table};
 use std::arch::asm;
 use std::mem::MaybeUninit;
 
@@ -82,18 +82,45 @@ pub fn plan(file: &[u8], launch: u32, marks: &mut [u8], starts: &mut [u32], ends
     unsafe { call(ffi::addresses().plan, registers, &words) }
 }
 
-/// The stack of judging; the columns are passed in memory.
-pub fn judge(file: &[u8], launch: u32, marks: &[u8], starts: &[u32], ends: &[u32], tasks: &[u32]) -> Use {
+/// The stack of judging; the run list is passed in memory.
+pub fn judge(file: &[u8], launch: u32, marks: &[u8], runs: &[Run]) -> Use {
     let mut reply = MaybeUninit::<Judged>::uninit();
     let registers = [reply.as_mut_ptr() as usize, file.as_ptr() as usize, file.len(), launch as usize, marks.as_ptr() as usize, marks.len()];
-    let words = [starts.as_ptr() as u64, starts.len() as u64, ends.as_ptr() as u64, ends.len() as u64, tasks.as_ptr() as u64, tasks.len() as u64];
-    unsafe { call(ffi::addresses().judge, registers, &words) }
+    unsafe { call(ffi::addresses().judge, registers, &[runs.as_ptr() as u64, runs.len() as u64]) }
 }
 
-/// The stack of the busy count; what comes behind the address of the tasks is passed in memory.
-pub fn busy(starts: &[u32], ends: &[u32], tasks: &[u32], a: u32, b: u32) -> Use {
+/// The stack of the busy count.
+pub fn busy(runs: &[Run], a: u32, b: u32) -> Use {
     let mut reply = MaybeUninit::<BusyCount>::uninit();
-    let registers =
-        [reply.as_mut_ptr() as usize, starts.as_ptr() as usize, starts.len(), ends.as_ptr() as usize, ends.len(), tasks.as_ptr() as usize];
-    unsafe { call(ffi::addresses().busy, registers, &[tasks.len() as u64, u64::from(a), u64::from(b)]) }
+    let registers = [reply.as_mut_ptr() as usize, runs.as_ptr() as usize, runs.len(), a as usize, b as usize, 0];
+    unsafe { call(ffi::addresses().busy, registers, &[]) }
+}
+
+/// The stack of the check of a run list. Its reply comes in two registers, so that its caller passes no address for it.
+pub fn check_runs(runs: &[Run]) -> Use {
+    unsafe { call(ffi::addresses().check_runs, [runs.as_ptr() as usize, runs.len(), 0, 0, 0, 0], &[]) }
+}
+
+/// The stack of the query for the run at a tick.
+pub fn run_at(runs: &[Run], tick: u32) -> Use {
+    unsafe { find(ffi::addresses().run_at, runs, tick) }
+}
+
+/// The stack of the query for the first run from a tick on.
+pub fn run_from(runs: &[Run], tick: u32) -> Use {
+    unsafe { find(ffi::addresses().run_from, runs, tick) }
+}
+
+/// The stack of a query for one run.
+///
+/// # Safety
+/// The function is one of the two queries that take a run list and a tick and find one run.
+unsafe fn find(function: usize, runs: &[Run], tick: u32) -> Use {
+    let mut reply = MaybeUninit::<Found>::uninit();
+    call(function, [reply.as_mut_ptr() as usize, runs.as_ptr() as usize, runs.len(), tick as usize, 0, 0], &[])
+}
+
+/// The stack of the query for an interval, whose reply too comes in two registers.
+pub fn runs_touching(runs: &[Run], a: u32, b: u32) -> Use {
+    unsafe { call(ffi::addresses().runs_touching, [runs.as_ptr() as usize, runs.len(), a as usize, b as usize, 0, 0], &[]) }
 }

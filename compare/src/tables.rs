@@ -1,8 +1,9 @@
-//! The tables of the benchmarks, and the lists that their plans are written to.
+//! The tables of the benchmarks, the lists that their plans are written to, and finished plans.
 
 use crate::ffi::{Planned, Planning};
+use crate::inputs;
 use crate::random::Random;
-use crate::reference::{Table, Task};
+use crate::reference::{self, Run, Table, Task, MAX_RUNS};
 
 /// The launch tick of every plan and judgement.
 pub const LAUNCH: u32 = 0;
@@ -116,4 +117,73 @@ impl Lists {
 pub fn summary(said: &Planned) -> String {
     assert_eq!(said.number, 0);
     format!("kept {}, discarded {}, {} runs", said.kept, said.discarded, said.runs)
+}
+
+/// A run list as three columns: the form that a library takes which doesn't take records.
+#[derive(Clone, Debug, Default)]
+pub struct Columns {
+    pub starts: Vec<u32>,
+    pub ends: Vec<u32>,
+    pub tasks: Vec<u32>,
+}
+
+impl Columns {
+    /// Columns with places for so many runs.
+    pub fn places(runs: usize) -> Columns {
+        Columns { starts: vec![0; runs], ends: vec![0; runs], tasks: vec![0; runs] }
+    }
+
+    /// Copies records to the first places, one column after the other, which takes less time than all three in one pass.
+    pub fn copy(&mut self, runs: &[Run]) {
+        self.starts.iter_mut().zip(runs).for_each(|(start, run)| *start = run.start);
+        self.ends.iter_mut().zip(runs).for_each(|(end, run)| *end = run.end);
+        self.tasks.iter_mut().zip(runs).for_each(|(task, run)| *task = run.task);
+    }
+}
+
+/// A finished plan that the judge accepts: a file, its marks and its runs, these in both forms.
+#[derive(Clone, Debug)]
+pub struct Finished {
+    pub file: Vec<u8>,
+    pub marks: Vec<u8>,
+    pub runs: Vec<Run>,
+    pub columns: Columns,
+}
+
+impl Finished {
+    /// A finished plan of a table.
+    fn new(table: &Table, marks: Vec<u8>, runs: Vec<Run>) -> Finished {
+        let mut columns = Columns::places(runs.len());
+        columns.copy(&runs);
+        Finished { file: inputs::pack(table), marks, runs, columns }
+    }
+
+    /// A tick that a run in the middle holds.
+    pub fn tick(&self) -> u32 {
+        self.runs[self.runs.len() / 2].start
+    }
+
+    /// An interval that has the middle half of the runs.
+    pub fn interval(&self) -> (u32, u32) {
+        let n = self.runs.len();
+        (self.runs[n / 4].start, self.runs[3 * n / 4].end)
+    }
+}
+
+/// 64 tasks in 127 runs, as planned. The reference plans here, so that no call of a library is counted that is not to be measured.
+pub fn planned_runs() -> Finished {
+    let table = most_runs(64);
+    let Lists { mut marks, mut starts, mut ends, mut tasks } = Lists::default();
+    let plan = reference::plan(&inputs::pack(&table), LAUNCH, &mut marks, &mut starts, &mut ends, &mut tasks).expect("a plan");
+    let runs = (0..plan.runs).map(|i| Run { start: starts[i], end: ends[i], task: tasks[i] }).collect();
+    Finished::new(&table, marks, runs)
+}
+
+/// One task in 4,096 runs of one tick, two ticks apart.
+pub fn many_runs() -> Finished {
+    let ticks = MAX_RUNS as u32;
+    let table = table(&[Task { release: 0, deadline: 200, mandatory: ticks, optional: 0 }]);
+    let first = table.clock(LAUNCH).release(0);
+    let runs = (0..ticks).map(|i| Run { start: first + 3 * i, end: first + 3 * i + 1, task: 0 }).collect();
+    Finished::new(&table, vec![1], runs)
 }

@@ -2,12 +2,16 @@
 //! microseconds, the ratio, how planning grows with the number of tasks, and the stack that each call of the proved library uses.
 
 use planner_compare::ffi;
-use planner_compare::inputs::{self, Columns};
-use planner_compare::measure::{in_turn, median};
-use planner_compare::reference::{self, Table, Task};
+use planner_compare::inputs;
+use planner_compare::measure::{alone, in_turn, median};
+use planner_compare::reference::{self, Run, Table};
 use planner_compare::stack;
-use planner_compare::tables::{self, Lists, LAUNCH};
+use planner_compare::tables::{self, Columns, Finished, Lists, LAUNCH};
 use std::hint::black_box;
+
+/// The targets for what copies 4,096 records into two columns before it looks at them, and into three.
+const TWO_COLUMNS: f64 = 2.5;
+const THREE_COLUMNS: f64 = 5.0;
 
 /// The target for the ratio of planning 64 tasks.
 const FULL: f64 = 0.7;
@@ -90,42 +94,116 @@ fn files() {
     line("shift 64 tasks, 500 bytes", 1.2, times);
 }
 
-/// Measures judging of a running that is accepted, and prints its line.
-fn judge(name: &str, file: &[u8], marks: &[u8], columns: &Columns) {
-    assert!(ffi::judge(file, LAUNCH, marks, &columns.starts, &columns.ends, &columns.tasks).yes);
+/// Measures judging of a finished plan that is accepted, and prints its line.
+fn judge(name: &str, Finished { file, marks, runs, .. }: &Finished) {
+    assert!(ffi::judge(file, LAUNCH, marks, runs).yes);
     let times = both(
         || {
-            black_box(ffi::judge(black_box(file), LAUNCH, marks, &columns.starts, &columns.ends, &columns.tasks));
+            black_box(ffi::judge(black_box(file), LAUNCH, marks, runs));
         },
         || {
-            let _ = black_box(reference::judge(black_box(file), LAUNCH, marks, &columns.starts, &columns.ends, &columns.tasks));
+            let _ = black_box(reference::judge(black_box(file), LAUNCH, marks, runs));
         },
     );
     line(name, 2.0, times);
 }
 
-/// The two calls on finished plans.
-fn finished() {
-    let file = inputs::pack(&tables::most_runs(64));
-    let mut lists = Lists::default();
-    let runs = lists.plan(ffi::plan, &file).runs;
-    let columns = Columns { starts: lists.starts[..runs].to_vec(), ends: lists.ends[..runs].to_vec(), tasks: lists.tasks[..runs].to_vec() };
-    judge("judge 64 tasks, 127 runs", &file, &lists.marks, &columns);
-    let one = tables::table(&[Task { release: 0, deadline: 200, mandatory: 4096, optional: 0 }]);
-    let first = one.clock(LAUNCH).release(0);
-    let mut many = Columns::default();
-    (0..4096).for_each(|i| many.push((first + 3 * i, first + 3 * i + 1, 0)));
-    judge("judge 1 task, 4,096 runs", &inputs::pack(&one), &[1], &many);
-    let (a, b) = (1000, 11000);
-    let times = both(
-        || {
-            black_box(ffi::busy(black_box(&many.starts), &many.ends, &many.tasks, a, b));
+/// Measures the busy count of a finished plan, and prints its line.
+fn busy(name: &str, target: f64, finished: &Finished) {
+    let (a, b) = finished.interval();
+    on_runs(
+        name,
+        target,
+        &finished.runs,
+        |runs| {
+            black_box(ffi::busy(runs, a, b));
         },
-        || {
-            let _ = black_box(reference::busy(black_box(&many.starts), &many.ends, &many.tasks, a, b));
+        |runs| {
+            let _ = black_box(reference::busy(runs, a, b));
         },
     );
-    line("busy count of 4,096 runs", 2.0, times);
+}
+
+/// Measures what is asked of a run list alone, and prints its line. The library copies the list first, two columns of it or all three.
+fn on_runs(name: &str, target: f64, runs: &[Run], proved: impl Fn(&[Run]), reference: impl Fn(&[Run])) {
+    line(name, target, both(|| proved(black_box(runs)), || reference(black_box(runs))));
+}
+
+/// The two calls on finished plans.
+fn finished() {
+    let (few, many) = (tables::planned_runs(), tables::many_runs());
+    judge("judge 64 tasks, 127 runs", &few);
+    judge("judge 1 task, 4,096 runs", &many);
+    busy("busy count of 127 runs", 4.0, &few);
+    busy("busy count of 4,096 runs", TWO_COLUMNS, &many);
+}
+
+/// The check of 4,096 runs, and what touches an interval of them.
+fn check_and_touching(Finished { runs, .. }: &Finished, (a, b): (u32, u32)) {
+    on_runs(
+        "check 4,096 runs",
+        TWO_COLUMNS,
+        runs,
+        |runs| {
+            black_box(ffi::check_runs(runs));
+        },
+        |runs| {
+            let _ = black_box(reference::check_runs(runs));
+        },
+    );
+    on_runs(
+        "runs touching an interval, of 4,096",
+        TWO_COLUMNS,
+        runs,
+        |runs| {
+            black_box(ffi::runs_touching(runs, a, b));
+        },
+        |runs| {
+            black_box(reference::runs_touching(runs, a, b));
+        },
+    );
+}
+
+/// The two queries for one run of 4,096.
+fn one_run(Finished { runs, .. }: &Finished, tick: u32) {
+    on_runs(
+        "run at a tick, of 4,096",
+        THREE_COLUMNS,
+        runs,
+        |runs| {
+            black_box(ffi::run_at(runs, tick));
+        },
+        |runs| {
+            let _ = black_box(reference::run_at(runs, tick));
+        },
+    );
+    on_runs(
+        "first run from a tick on, of 4,096",
+        THREE_COLUMNS,
+        runs,
+        |runs| {
+            black_box(ffi::run_from(runs, tick));
+        },
+        |runs| {
+            let _ = black_box(reference::run_from(runs, tick));
+        },
+    );
+}
+
+/// The check and the queries of 4,096 runs, and a plain copy of as many records into three columns.
+fn queries() {
+    let finished = tables::many_runs();
+    let (tick, (a, b)) = (finished.tick(), finished.interval());
+    let runs = &finished.runs;
+    assert!(ffi::run_at(runs, tick).found && ffi::run_from(runs, tick).found && ffi::runs_touching(runs, a, b).runs > 0);
+    check_and_touching(&finished, (a, b));
+    one_run(&finished, tick);
+    let mut columns = Columns::places(runs.len());
+    let copies = alone(BATCHES, || {
+        columns.copy(black_box(runs));
+        black_box(&columns);
+    });
+    println!("{:<78} {:>10} {:>10.3}", "for comparison: copying 4,096 records into three columns, in Rust", "", median(&copies));
 }
 
 /// How planning grows with the number of tasks, for both kinds.
@@ -141,9 +219,14 @@ fn growth() {
 
 /// The stack that each call of the proved library uses.
 fn stacks() {
-    println!("Stack of each call of the proved library in bytes, measured on a painted area (64 tasks, 500 bytes, 127 runs):");
-    let file = inputs::pack(&tables::most_runs(64));
+    println!(
+        "Stack of each call of the proved library in bytes, measured on a painted area (64 tasks, 500 bytes, 127 runs; of the calls that get a run"
+    );
+    println!("list alone 4,096 runs):");
     let similar = inputs::pack(&tables::similar_tight(64));
+    let Finished { file, marks, runs, .. } = tables::planned_runs();
+    let finished = tables::many_runs();
+    let (many, tick, (a, b)) = (&finished.runs, finished.tick(), finished.interval());
     let mut lists = Lists::default();
     let mut out = vec![0xaa; 500];
     let uses = [
@@ -151,9 +234,14 @@ fn stacks() {
         ("planner_write", stack::write(&tables::most_runs(64), &mut out)),
         ("planner_shift", stack::shift(&file, 5, &mut out)),
         ("planner_plan", stack::plan(&file, LAUNCH, &mut lists.marks, &mut lists.starts, &mut lists.ends, &mut lists.tasks)),
-        ("planner_judge", stack::judge(&file, LAUNCH, &lists.marks, &lists.starts, &lists.ends, &lists.tasks)),
-        ("planner_busy", stack::busy(&lists.starts, &lists.ends, &lists.tasks, 0, 9000)),
+        ("planner_judge", stack::judge(&file, LAUNCH, &marks, &runs)),
+        ("planner_busy", stack::busy(many, a, b)),
+        ("planner_check_runs", stack::check_runs(many)),
+        ("planner_run_at", stack::run_at(many, tick)),
+        ("planner_run_from", stack::run_from(many, tick)),
+        ("planner_runs_touching", stack::runs_touching(many, a, b)),
         ("planner_plan of similar tasks", stack::plan(&similar, LAUNCH, &mut lists.marks, &mut lists.starts, &mut lists.ends, &mut lists.tasks)),
+        ("planner_judge of 4,096 runs", stack::judge(&finished.file, LAUNCH, &finished.marks, many)),
     ];
     for (name, measured) in uses {
         println!("{name:<30} {:>6} of its own, {:>5} for arguments that its caller passes in memory", measured.own, measured.arguments);
@@ -169,6 +257,7 @@ fn main() {
     plans();
     files();
     finished();
+    queries();
     println!();
     growth();
     println!();

@@ -2,11 +2,11 @@
 //! content of every lent list with what stands on both sides of it. On a difference it prints the call, the seed and the input, and ends with
 //! status 1. `compare CALL SEED` does one case again.
 
-use planner_compare::brute;
-use planner_compare::ffi::{self, BusyCount, Judged, Planned, TableRead, Written};
+use planner_compare::brute::{self, Board};
+use planner_compare::ffi::{self, BusyCount, Checked, Found, Judged, Part, Planned, TableRead, Written};
 use planner_compare::inputs::{self, lent_length, Judgement, Load, Shape};
 use planner_compare::random::Random;
-use planner_compare::reference::{self, Kind, Table, LAST_FRAME, MAX_LAUNCH};
+use planner_compare::reference::{self, Kind, Run, Table, LAST_FRAME, MAX_LAUNCH, MAX_RUNS};
 use std::fmt::Debug;
 use std::process::ExitCode;
 use std::time::Instant;
@@ -45,6 +45,18 @@ fn bytes(random: &mut Random, length: usize) -> Lent<u8> {
 /// A list of numbers of any content.
 fn words(random: &mut Random, length: usize) -> Lent<u32> {
     Lent::filled(length, || random.word() as u32)
+}
+
+/// A run list with other runs on both sides, so that a call that reads beyond it gets something else than what stands in it.
+fn records(random: &mut Random, runs: &[Run]) -> Lent<Run> {
+    let mut lent = Lent::filled(runs.len(), || Run { start: random.any(), end: random.any(), task: random.any() });
+    lent.list_mut().copy_from_slice(runs);
+    lent
+}
+
+/// The records of the first so many places of three columns.
+fn of_columns(runs: usize, starts: &[u32], ends: &[u32], tasks: &[u32]) -> Vec<Run> {
+    (0..runs).map(|i| Run { start: starts[i], end: ends[i], task: tasks[i] }).collect()
 }
 
 /// What a case came to: the number replied, or what differs.
@@ -166,10 +178,11 @@ fn compare_plan(random: &mut Random) -> Outcome {
     same_list("ends", &ends, &expected_ends, input)?;
     same_list("tasks", &tasks, &expected_tasks, input)?;
     if proved.number == 0 {
-        let runs = proved.runs;
-        let said = ffi::judge(&file, launch, &marks.list()[..n], &starts.list()[..runs], &ends.list()[..runs], &tasks.list()[..runs]);
+        let runs = of_columns(proved.runs, starts.list(), ends.list(), tasks.list());
+        let said = ffi::judge(&file, launch, &marks.list()[..n], &runs);
         let owed = Judged { number: 0, place: 0, yes: true, kept: proved.kept, discarded: proved.discarded };
         same("judge of the plan", &said, &owed, input)?;
+        same("check of the plan's runs", &ffi::check_runs(&runs), &Checked { number: 0, place: 0 }, input)?;
     }
     if (1..=MAX_LAUNCH).contains(&launch) {
         // With launch 0 the reply, the marks and the tasks are the same, and each run lies earlier by the launch tick.
@@ -190,10 +203,11 @@ fn compare_plan(random: &mut Random) -> Outcome {
 
 /// Judging at the launch tick that the runs were made at, or at another one.
 fn compare_judge(random: &mut Random) -> Outcome {
-    let Judgement { file, launch, marks, columns } = inputs::judgement(random);
-    let proved = ffi::judge(&file, launch, &marks, &columns.starts, &columns.ends, &columns.tasks);
-    let expected = Judged::from(reference::judge(&file, launch, &marks, &columns.starts, &columns.ends, &columns.tasks));
-    same("reply", &proved, &expected, || format!("launch {launch}, marks {marks:?}, {columns:?}, {}", hex(&file)))?;
+    let Judgement { file, launch, marks, runs } = inputs::judgement(random);
+    let lent = records(random, &runs);
+    let proved = ffi::judge(&file, launch, &marks, lent.list());
+    let expected = Judged::from(reference::judge(&file, launch, &marks, &runs));
+    same("reply", &proved, &expected, || format!("launch {launch}, marks {marks:?}, {runs:?}, {}", hex(&file)))?;
     Ok(if proved.yes { YES } else { proved.number })
 }
 
@@ -205,35 +219,54 @@ fn compare_judge_long(random: &mut Random) -> Outcome {
     table.tasks[0] = task;
     let file = inputs::pack(&table);
     let launch = inputs::launch(random);
-    let mut columns = inputs::Columns::default();
-    for i in 0..length {
-        let start = launch.min(MAX_LAUNCH) + 1 + 2 * i + random.up_to(1);
-        columns.push((start, start + 1, 0));
-    }
+    let mut runs: Vec<Run> = (0..length)
+        .map(|i| {
+            let start = launch.min(MAX_LAUNCH) + 1 + 2 * i + random.up_to(1);
+            Run { start, end: start + 1, task: 0 }
+        })
+        .collect();
     if random.once_in(3) {
         let at = random.index(length as usize);
-        columns.ends[at] += random.up_to(2);
+        runs[at].end += random.up_to(2);
     }
-    let proved = ffi::judge(&file, launch, &[1], &columns.starts, &columns.ends, &columns.tasks);
-    let expected = Judged::from(reference::judge(&file, launch, &[1], &columns.starts, &columns.ends, &columns.tasks));
+    let proved = ffi::judge(&file, launch, &[1], &runs);
+    let expected = Judged::from(reference::judge(&file, launch, &[1], &runs));
     same("reply", &proved, &expected, || format!("launch {launch}, {length} runs"))?;
     Ok(if proved.yes { YES } else { proved.number })
 }
 
 /// The busy count.
 fn compare_busy(random: &mut Random) -> Outcome {
-    let columns = inputs::busy_columns(random);
-    let end = columns.ends.last().copied().unwrap_or(0);
-    let bound = |random: &mut Random| match random.up_to(3) {
-        0 => random.pick(&[0, 1, end, end.wrapping_add(1), u32::MAX]),
-        1 => random.up_to(end),
-        _ => random.any(),
-    };
-    let (a, b) = (bound(random), bound(random));
-    let proved = ffi::busy(&columns.starts, &columns.ends, &columns.tasks, a, b);
-    let expected = BusyCount::from(reference::busy(&columns.starts, &columns.ends, &columns.tasks, a, b));
-    same("reply", &proved, &expected, || format!("from {a} to {b}, {columns:?}"))?;
+    let runs = inputs::run_list(random);
+    let (a, b) = inputs::interval(random, &runs);
+    let lent = records(random, &runs);
+    let proved = ffi::busy(lent.list(), a, b);
+    let expected = BusyCount::from(reference::busy(&runs, a, b));
+    same("reply", &proved, &expected, || format!("from {a} to {b}, {runs:?}"))?;
     Ok(proved.number)
+}
+
+/// The check of a run list and the three queries.
+fn compare_queries(random: &mut Random) -> Outcome {
+    let runs = inputs::run_list(random);
+    let (at, from) = (inputs::tick(random, &runs), inputs::tick(random, &runs));
+    let (a, b) = inputs::interval(random, &runs);
+    let lent = records(random, &runs);
+    let list = lent.list();
+    let checked = ffi::check_runs(list);
+    same("check", &checked, &Checked::from(reference::check_runs(&runs)), || format!("{runs:?}"))?;
+    let found = ffi::run_at(list, at);
+    same("run at a tick", &found, &Found::from(reference::run_at(&runs, at)), || format!("at {at}, {runs:?}"))?;
+    let next = ffi::run_from(list, from);
+    same("first run from a tick on", &next, &Found::from(reference::run_from(&runs, from)), || format!("from {from}, {runs:?}"))?;
+    let part = ffi::runs_touching(list, a, b);
+    same("runs touching an interval", &part, &Part::from(reference::runs_touching(&runs, a, b)), || format!("from {a} to {b}, {runs:?}"))?;
+    // An empty stretch has no first run, and one that is not empty is inside the list.
+    if part.runs == 0 && part.first != 0 || part.first + part.runs > runs.len() {
+        return Err(format!("runs touching an interval\n  proved library: {part:?}\n  from {a} to {b}, {runs:?}"));
+    }
+    let outcome = if found.found { FOUND } else { checked.number };
+    Ok(outcome + if checked.number == 0 && part.runs == 0 { EMPTY } else { 0 })
 }
 
 /// A small table with few ticks, of either kind, of both or of neither.
@@ -293,6 +326,44 @@ fn compare_brute(random: &mut Random) -> Outcome {
     Ok(plan_outcome(&file, expected))
 }
 
+/// The ticks that short run lists lie in.
+const FEW_TICKS: u32 = 20;
+
+/// The queries, the busy count and brute force over all ticks and all intervals of a small range.
+fn compare_brute_queries(random: &mut Random) -> Outcome {
+    let first = match random.up_to(3) {
+        0..=1 => 0,
+        2 => u32::MAX - (FEW_TICKS - 1),
+        _ => random.up_to(u32::MAX - FEW_TICKS),
+    };
+    let runs = inputs::short_list(random, first, FEW_TICKS);
+    let board = Board::new(&runs, first, FEW_TICKS as usize);
+    let fault = board.first_fault();
+    // On a refusal every part of a reply but these two is 0. The board is asked where there is none.
+    let (number, place) = fault.map_or((0, 0), |k| (15, k));
+    let found = |answer: &dyn Fn() -> Option<Run>| {
+        let run = if fault.is_none() { answer() } else { None };
+        Found { number, place, found: run.is_some(), run: run.unwrap_or_default() }
+    };
+    for (name, library) in RUN_LISTS {
+        let what = |call: &str| format!("{call}, {name} and brute force");
+        same(&what("check"), &(library.check)(&runs), &Checked { number, place }, || format!("{runs:?}"))?;
+        for tick in board.ticks() {
+            let input = || format!("tick {tick}, {runs:?}");
+            same(&what("run at a tick"), &(library.at)(&runs, tick), &found(&|| board.run_at(tick)), input)?;
+            same(&what("first run from a tick on"), &(library.from)(&runs, tick), &found(&|| board.run_from(tick)), input)?;
+        }
+        for (a, b) in board.ticks().flat_map(|a| board.ticks().map(move |b| (a, b))) {
+            let input = || format!("from {a} to {b}, {runs:?}");
+            let (first, count) = if fault.is_none() { board.touching(a, b) } else { (0, 0) };
+            same(&what("runs touching an interval"), &(library.touching)(&runs, a, b), &Part { first, runs: count }, input)?;
+            let busy = BusyCount { number: 0, place: 0, ticks: board.busy(a, b) };
+            same(&what("busy count"), &(library.busy)(&runs, a, b), &busy, input)?;
+        }
+    }
+    Ok(number)
+}
+
 /// A planner that replies as the C interface does.
 type Plan<'a> = &'a dyn Fn(&[u8], u32, &mut [u8], &mut [u32], &mut [u32], &mut [u32]) -> Planned;
 
@@ -300,10 +371,32 @@ const PLANNERS: [(&str, Plan); 2] =
     [("proved library", &ffi::plan), ("reference", &|f, l, m, s, e, t| Planned::from(reference::plan(f, l, m, s, e, t)))];
 
 /// A judge that replies as the C interface does.
-type Judge<'a> = &'a dyn Fn(&[u8], u32, &[u8], &[u32], &[u32], &[u32]) -> Judged;
+type Judge<'a> = &'a dyn Fn(&[u8], u32, &[u8], &[Run]) -> Judged;
 
-const JUDGES: [(&str, Judge); 2] =
-    [("proved library", &ffi::judge), ("reference", &|f, l, m, s, e, t| Judged::from(reference::judge(f, l, m, s, e, t)))];
+const JUDGES: [(&str, Judge); 2] = [("proved library", &ffi::judge), ("reference", &|f, l, m, r| Judged::from(reference::judge(f, l, m, r)))];
+
+/// What a run list alone is asked for, with replies as the C interface has them.
+struct RunLists {
+    check: fn(&[Run]) -> Checked,
+    at: fn(&[Run], u32) -> Found,
+    from: fn(&[Run], u32) -> Found,
+    touching: fn(&[Run], u32, u32) -> Part,
+    busy: fn(&[Run], u32, u32) -> BusyCount,
+}
+
+const RUN_LISTS: [(&str, RunLists); 2] = [
+    ("proved library", RunLists { check: ffi::check_runs, at: ffi::run_at, from: ffi::run_from, touching: ffi::runs_touching, busy: ffi::busy }),
+    (
+        "reference",
+        RunLists {
+            check: |runs| reference::check_runs(runs).into(),
+            at: |runs, tick| reference::run_at(runs, tick).into(),
+            from: |runs, tick| reference::run_from(runs, tick).into(),
+            touching: |runs, a, b| reference::runs_touching(runs, a, b).into(),
+            busy: |runs, a, b| reference::busy(runs, a, b).into(),
+        },
+    ),
+];
 
 /// The reply, the marks and the runs of a planner whose lists are just long enough; on a refusal the marks stay 9.
 fn plan_with(plan: Plan, file: &[u8], launch: u32, n: usize) -> (Planned, Vec<u8>, Vec<(u32, u32, u32)>) {
@@ -397,34 +490,40 @@ fn samples() -> Result<usize, String> {
     let mut over = vec![0; 508];
     over[0] = 65 << 1;
     same("65 give 2", &(ffi::read(&over).number, ffi::read(&over).place), &(2, 0), || hex(&over))?;
-    Ok(2 * plans.len() * launches.len() + judgements + 4)
+    Ok(2 * plans.len() * launches.len() + judgements + 4 + queried_samples()?)
 }
+
+/// The runs of P8's plan at launch 0.
+const EIGHT: [(u32, u32, u32); 5] = [(3, 5, 0), (5, 6, 2), (6, 7, 0), (7, 8, 1), (8, 10, 0)];
 
 /// P8 planned at noon and judged, runs near an empty window, and what comes behind 14 in planning and judging. The files of P8 and P11 are given.
 fn judged_samples(eight: &[u8], eleven: &[u8]) -> Result<usize, String> {
     let marks = [1, 0, 0];
-    let runs = [(3, 5, 0), (5, 6, 2), (6, 7, 0), (7, 8, 1), (8, 10, 0)];
-    let mut at_noon = inputs::Columns::default();
-    runs.iter().for_each(|&(start, end, task)| at_noon.push((NOON + start, NOON + end, task)));
+    let at_noon = EIGHT.map(|(start, end, task)| Run { start: NOON + start, end: NOON + end, task });
+    let turned = [at_noon[1], at_noon[0], at_noon[2], at_noon[3], at_noon[4]];
+    let many = vec![at_noon[0]; MAX_RUNS + 1];
     let yes = Judged { number: 0, place: 0, yes: true, kept: 1, discarded: 2 };
     let no = Judged { number: 0, place: 0, yes: false, kept: 0, discarded: 0 };
     let refused = |number, place| Judged { number, place, ..no };
     let (short, beyond) = (&eight[..27], MAX_LAUNCH + 1);
     let cases = [
-        ("yes at noon", eight, NOON, &marks[..], 5, yes),
-        ("no a tick later", eight, NOON + 1, &marks[..], 5, no),
-        ("no a tick earlier", eight, NOON - 1, &marks[..], 5, no),
-        ("no at launch 0", eight, 0, &marks[..], 5, no),
-        ("14", eight, beyond, &marks[..], 5, refused(14, 0)),
-        ("1 before 14", short, beyond, &marks[..], 5, refused(1, 27)),
-        ("14 before 11", eight, beyond, &marks[..2], 5, refused(14, 0)),
-        ("14 before 13", eight, beyond, &marks[..], 4, refused(14, 0)),
-        ("11 at noon", eight, NOON, &marks[..2], 4, refused(11, 3)),
-        ("13 at noon", eight, NOON, &marks[..], 4, refused(13, 0)),
+        ("yes at noon", eight, NOON, &marks[..], &at_noon[..], yes),
+        ("no a tick later", eight, NOON + 1, &marks[..], &at_noon[..], no),
+        ("no a tick earlier", eight, NOON - 1, &marks[..], &at_noon[..], no),
+        ("no at launch 0", eight, 0, &marks[..], &at_noon[..], no),
+        ("no without the last run", eight, NOON, &marks[..], &at_noon[..4], no),
+        ("no and not 15", eight, NOON, &marks[..], &turned[..], no),
+        ("no for 4,096 runs", eight, NOON, &marks[..], &many[1..], no),
+        ("14", eight, beyond, &marks[..], &at_noon[..], refused(14, 0)),
+        ("1 before 14", short, beyond, &marks[..], &at_noon[..], refused(1, 27)),
+        ("14 before 11", eight, beyond, &marks[..2], &at_noon[..], refused(14, 0)),
+        ("14 before 13", eight, beyond, &marks[..], &many[..], refused(14, 0)),
+        ("11 at noon, before 13", eight, NOON, &marks[..2], &many[..], refused(11, 3)),
+        ("13 at noon", eight, NOON, &marks[..], &many[..], refused(13, 0)),
     ];
-    for (name, file, launch, marks, ends, expected) in cases {
+    for (name, file, launch, marks, runs, expected) in cases {
         for (name_of_judge, judge) in JUDGES {
-            let said = judge(file, launch, marks, &at_noon.starts, &at_noon.ends[..ends], &at_noon.tasks);
+            let said = judge(file, launch, marks, runs);
             same(&format!("judging, {name}, {name_of_judge} and the rules"), &said, &expected, || hex(file))?;
         }
     }
@@ -432,7 +531,7 @@ fn judged_samples(eight: &[u8], eleven: &[u8]) -> Result<usize, String> {
     let outside = [(1, 2), (2, 3), (3, 4)];
     for (start, end) in outside {
         for (name_of_judge, judge) in JUDGES {
-            let said = judge(eleven, 0, &[1], &[start], &[end], &[0]);
+            let said = judge(eleven, 0, &[1], &[Run { start, end, task: 0 }]);
             same(&format!("judging, P11 with a run from {start} to {end}, {name_of_judge} and the rules"), &said, &no, || hex(eleven))?;
         }
     }
@@ -447,12 +546,176 @@ fn judged_samples(eight: &[u8], eleven: &[u8]) -> Result<usize, String> {
     Ok(2 * (cases.len() + outside.len() + refusals.len()))
 }
 
-/// Outcomes counted apart beside the refusals: a judge's yes; a plan of nested windows that discards; plans of similar windows.
+/// A run list by its starts, ends and tasks.
+fn list(runs: &[(u32, u32, u32)]) -> Vec<Run> {
+    runs.iter().map(|&run| Run::from(run)).collect()
+}
+
+/// Runs with gaps between them, the last of them at the greatest numbers.
+const APART: [(u32, u32, u32); 3] = [(0, 1, 9), (4, 8, 9), (u32::MAX - 1, u32::MAX, u32::MAX)];
+
+/// The check, the queries and the busy count of P8's runs, of runs at the greatest numbers, and of lists that are refused.
+fn queried_samples() -> Result<usize, String> {
+    let (eight, apart) = (list(&EIGHT), list(&APART));
+    Ok(checked_samples()? + tick_samples(&eight, &apart)? + interval_samples(&eight, &apart)? + counted_samples()?)
+}
+
+/// The reply of the check, of lists that are accepted or refused; a query refuses the same, and the one for an interval answers nothing.
+fn checked_samples() -> Result<usize, String> {
+    let many = vec![Run::from((5, 5, 0)); MAX_RUNS + 1];
+    let checks = [
+        ("P8", list(&EIGHT), 0, 0),
+        ("no run", vec![], 0, 0),
+        ("runs apart", list(&APART), 0, 0),
+        ("an empty run", list(&[(3, 5, 0), (5, 5, 0)]), 15, 1),
+        ("an empty run at 0", list(&[(0, 0, 0), (0, 1, 0)]), 15, 0),
+        ("a reversed run", list(&[(3, 5, 0), (7, 6, 0), (8, 9, 0)]), 15, 1),
+        ("a run that begins a tick before the previous end", list(&[(1, 2, 0), (3, 5, 0), (4, 6, 1)]), 15, 2),
+        ("a run inside the previous one", list(&[(1, 9, 0), (3, 5, 0)]), 15, 1),
+        ("the same run twice", list(&[(1, 2, 0), (1, 2, 0)]), 15, 1),
+        ("two faults", list(&[(1, 2, 0), (2, 2, 0), (1, 1, 0)]), 15, 1),
+        ("4,096 empty runs", many[1..].to_vec(), 15, 0),
+        ("4,097 empty runs", many.clone(), 13, 0),
+    ];
+    let mut cases = 0;
+    for (what, runs, number, place) in &checks {
+        let (number, place) = (*number, *place);
+        for (name, library) in RUN_LISTS {
+            let rules = |call: &str| format!("{call} of {what}, {name} and the rules");
+            same(&rules("check"), &(library.check)(runs), &Checked { number, place }, || what.to_string())?;
+            if number > 0 {
+                let none = Found { number, place, found: false, run: Run::default() };
+                same(&rules("run at 3"), &(library.at)(runs, 3), &none, || what.to_string())?;
+                same(&rules("run from 0"), &(library.from)(runs, 0), &none, || what.to_string())?;
+                same(&rules("touching 0 to 9"), &(library.touching)(runs, 0, 9), &Part { first: 0, runs: 0 }, || what.to_string())?;
+                cases += 3;
+            }
+            cases += 1;
+        }
+    }
+    Ok(cases)
+}
+
+/// The index of the run at a tick, and of the first run from it on.
+fn tick_samples(eight: &[Run], apart: &[Run]) -> Result<usize, String> {
+    let last = u32::MAX;
+    let ticks = [
+        ("P8", eight, 0, None, Some(0)),
+        ("P8", eight, 2, None, Some(0)),
+        ("P8", eight, 3, Some(0), Some(0)),
+        ("P8", eight, 4, Some(0), Some(1)),
+        ("P8", eight, 5, Some(1), Some(1)),
+        ("P8", eight, 8, Some(4), Some(4)),
+        ("P8", eight, 9, Some(4), None),
+        ("P8", eight, 10, None, None),
+        ("P8", eight, last, None, None),
+        ("runs apart", apart, 0, Some(0), Some(0)),
+        ("runs apart", apart, 1, None, Some(1)),
+        ("runs apart", apart, 5, Some(1), Some(2)),
+        ("runs apart", apart, last - 2, None, Some(2)),
+        ("runs apart", apart, last - 1, Some(2), Some(2)),
+        ("runs apart", apart, last, None, None),
+    ];
+    for (what, runs, tick, at, from) in ticks {
+        let found = |index: Option<usize>| Found { number: 0, place: 0, found: index.is_some(), run: index.map_or(Run::default(), |k| runs[k]) };
+        for (name, library) in RUN_LISTS {
+            same(&format!("{what}, run at {tick}, {name} and the rules"), &(library.at)(runs, tick), &found(at), String::new)?;
+            same(&format!("{what}, run from {tick}, {name} and the rules"), &(library.from)(runs, tick), &found(from), String::new)?;
+        }
+    }
+    Ok(2 * RUN_LISTS.len() * ticks.len())
+}
+
+/// The first index and the number of the runs that touch an interval.
+fn interval_samples(eight: &[Run], apart: &[Run]) -> Result<usize, String> {
+    let last = u32::MAX;
+    let intervals = [
+        ("P8", eight, 0, last, 0, 5),
+        ("P8", eight, 4, 7, 0, 3),
+        ("P8", eight, 5, 8, 1, 3),
+        ("P8", eight, 9, 10, 4, 1),
+        ("P8", eight, 0, 3, 0, 0),
+        ("P8", eight, 10, 20, 0, 0),
+        ("P8", eight, 6, 6, 0, 0),
+        ("P8", eight, 7, 5, 0, 0),
+        ("runs apart", apart, 1, 4, 0, 0),
+        ("runs apart", apart, 1, 5, 1, 1),
+        ("runs apart", apart, 8, last - 1, 0, 0),
+        ("runs apart", apart, 7, last, 1, 2),
+        ("runs apart", apart, 6, 6, 0, 0),
+        ("runs apart", apart, 7, 5, 0, 0),
+        ("runs apart", apart, last - 1, last, 2, 1),
+        ("runs apart", apart, last, 0, 0, 0),
+    ];
+    for (what, runs, a, b, first, count) in intervals {
+        for (name, library) in RUN_LISTS {
+            let rules = format!("{what}, touching {a} to {b}, {name} and the rules");
+            same(&rules, &(library.touching)(runs, a, b), &Part { first, runs: count }, String::new)?;
+        }
+    }
+    Ok(RUN_LISTS.len() * intervals.len())
+}
+
+/// The busy count, also of lists that the queries refuse with 15. It is 64 bits wide.
+fn counted_samples() -> Result<usize, String> {
+    let last = u32::MAX;
+    let counts = [
+        ("P8", list(&EIGHT), 4, 9, 0, 5),
+        ("two runs that overlap", list(&[(3, 5, 0), (4, 6, 1)]), 0, 9, 0, 4),
+        ("a reversed run between two others", list(&[(3, 5, 0), (7, 6, 0), (8, 9, 0)]), 0, 9, 0, 3),
+        ("P8's runs and an interval that is none", list(&EIGHT), 9, 4, 0, 0),
+        ("4,096 runs of all ticks", vec![Run::from((0, last, 0)); MAX_RUNS], 0, last, 0, 17_592_186_040_320),
+        ("4,097 runs", vec![Run::from((5, 5, 0)); MAX_RUNS + 1], 0, 9, 13, 0),
+    ];
+    for (what, runs, a, b, number, ticks) in &counts {
+        for (name, library) in RUN_LISTS {
+            let said = (library.busy)(runs, *a, *b);
+            same(&format!("busy count, {what}, {name} and the rules"), &said, &BusyCount { number: *number, place: 0, ticks: *ticks }, String::new)?;
+        }
+    }
+    Ok(RUN_LISTS.len() * counts.len())
+}
+
+/// Lists of every length up to beyond the limit. Run i holds the ticks 3i + 1 and 3i + 2, so that every answer can be told from the tick alone.
+fn lengths() -> Result<usize, String> {
+    let run = |i: usize| Run { start: 3 * i as u32 + 1, end: 3 * i as u32 + 3, task: i as u32 };
+    let runs: Vec<Run> = (0..MAX_RUNS + 100).map(run).collect();
+    for length in 0..=runs.len() {
+        let (number, place) = if length > MAX_RUNS { (13, 0) } else { (0, 0) };
+        let found = |i: usize| match number {
+            0 if i < length => Found { number, place, found: true, run: run(i) },
+            _ => Found { number, place, found: false, run: Run::default() },
+        };
+        // A run near the middle, and the last.
+        for i in [length / 2, length.saturating_sub(1)] {
+            let gap = 3 * i as u32;
+            let none = found(length);
+            for (name, library) in RUN_LISTS {
+                let what = |call: &str| format!("{call} of {length} runs in order, {name} and the rules");
+                let list = &runs[..length];
+                same(&what("check"), &(library.check)(list), &Checked { number, place }, String::new)?;
+                for (tick, at, from) in [(gap, none, found(i)), (gap + 1, found(i), found(i)), (gap + 2, found(i), found(i + 1))] {
+                    same(&what(&format!("run at {tick}")), &(library.at)(list, tick), &at, String::new)?;
+                    same(&what(&format!("run from {tick}")), &(library.from)(list, tick), &from, String::new)?;
+                }
+                // From the last tick of run i to the first of the run after the next, both included: three runs, if there are so many.
+                let touched = if number == 0 { length.saturating_sub(i).min(3) } else { 0 };
+                let part = Part { first: if touched > 0 { i } else { 0 }, runs: touched };
+                same(&what(&format!("touching from {}", gap + 2)), &(library.touching)(list, gap + 2, gap + 8), &part, String::new)?;
+            }
+        }
+    }
+    Ok(2 * (runs.len() + 1))
+}
+
+/// Outcomes counted apart beside the refusals: a judge's yes, or a run that holds the tick; a plan of nested windows that discards; plans of similar
+/// windows.
 const YES: u32 = 20;
+const FOUND: u32 = YES;
 const DROPPED: u32 = 21;
 const SIMILAR: u32 = 22;
 const SIMILAR_DROPPED: u32 = 23;
-/// Added to the outcome of planning a table that has an empty window.
+/// Added to the outcome of planning a table that has an empty window, and of queries whose interval no run touches.
 const EMPTY: u32 = 24;
 
 /// The outcome of planning a file.
@@ -478,7 +741,7 @@ struct Call {
     one: fn(&mut Random) -> Outcome,
 }
 
-const CALLS: [Call; 8] = [
+const CALLS: [Call; 10] = [
     Call { name: "read", cases: 150_000, one: compare_read },
     Call { name: "write", cases: 100_000, one: compare_write },
     Call { name: "shift", cases: 100_000, one: compare_shift },
@@ -486,7 +749,9 @@ const CALLS: [Call; 8] = [
     Call { name: "judge", cases: 150_000, one: compare_judge },
     Call { name: "judge-long", cases: 400, one: compare_judge_long },
     Call { name: "busy", cases: 60_000, one: compare_busy },
+    Call { name: "queries", cases: 60_000, one: compare_queries },
     Call { name: "brute", cases: 40_000, one: compare_brute },
+    Call { name: "brute-runs", cases: 20_000, one: compare_brute_queries },
 ];
 
 /// One case; a seed gives every call inputs of its own.
@@ -495,10 +760,11 @@ fn case(index: usize, seed: u64) -> Outcome {
     (CALLS[index].one)(&mut random).map_err(|what| format!("DIFFERENCE in {} of seed {seed}: {what}", CALLS[index].name))
 }
 
-/// The samples and all cases of every call; prints a line for each call.
+/// The samples, run lists of all lengths, and all cases of every call; prints a line for each.
 fn all() -> Result<(), String> {
     let begun = Instant::now();
     println!("{:<10} {:>7} cases, no difference", "samples", samples()?);
+    println!("{:<10} {:>7} cases, no difference", "lengths", lengths()?);
     let mut total = 0;
     for (index, call) in CALLS.iter().enumerate() {
         let (mut counts, mut empty) = ([0u64; EMPTY as usize], [0u64; EMPTY as usize]);
@@ -514,6 +780,8 @@ fn all() -> Result<(), String> {
                 let kind = match (call.name, number) {
                     ("judge" | "judge-long", 0) => "no".into(),
                     ("plan" | "brute", 0) => "nested, all kept".into(),
+                    ("queries", 0) => "no run at the tick".into(),
+                    ("queries", 20) => "a run at the tick".into(),
                     (_, 0) => "accepted".into(),
                     (_, 20) => "yes".into(),
                     (_, 21) => "nested, some discarded".into(),
@@ -521,7 +789,8 @@ fn all() -> Result<(), String> {
                     (_, 23) => "similar, some discarded".into(),
                     _ => format!("refusal {number}"),
                 };
-                let of_these = if empty[number] > 0 { format!(" ({} with an empty window)", empty[number]) } else { String::new() };
+                let with = if call.name == "queries" { "an interval that no run touches" } else { "an empty window" };
+                let of_these = if empty[number] > 0 { format!(" ({} with {with})", empty[number]) } else { String::new() };
                 format!("{kind}: {}{of_these}", counts[number])
             })
             .collect();
