@@ -9,10 +9,9 @@ use Rattle.base.proofs.PlaceLaws.{places-is}
 use Rattle.schedule.specs.declared.Stretch.{Stretch}
 use Rattle.schedule.specs.Runs.{noRun, runAt, runsOf}
 use Rattle.schedule.specs.Queries.{touching, stretchOf}
-use Rattle.schedule.proofs.ColumnLaws.{columns-length}
-use Rattle.schedule.proofs.StretchLaws.{all-indices}
+use Rattle.schedule.proofs.ColumnLaws.{columns-length, runs-at, end-at}
+use Rattle.schedule.proofs.CheckLaws.{all-indices}
 use Rattle.schedule.proofs.QueryLaws.{stretch-part, stretch-within}
-use Rattle.searching.proofs.ColumnLaws.{runs-at, end-at}
 use Rattle.printed_plan.proofs.NowLaws.{touching-cut}
 
 -- so many elements of a list from a place on

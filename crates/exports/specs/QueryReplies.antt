@@ -1,7 +1,8 @@
 -- The replies of the check and of the queries for one run as C gets them: the values of each case of the answer.
 use Rattle.schedule.specs.declared.RunsAnswer.{RunsAnswer}
 use Rattle.schedule.specs.declared.Found.{Found}
-use Rattle.schedule.specs.Queries.{runsNumber, runsPlace, foundNumber, foundPlace, isFound, foundRun}
+use Rattle.schedule.specs.RunCheck.{runsNumber, runsPlace}
+use Rattle.schedule.specs.Queries.{foundNumber, foundPlace, isFound, foundRun}
 use Rattle.exports.specs.declared.Checked.{Checked}
 use Rattle.exports.specs.declared.FoundRun.{FoundRun}
 

@@ -7,7 +7,8 @@ ghost use Rattle.table.specs.Writing.{writeReply, writtenOver};
 ghost use Rattle.table.specs.Moving.{moveReply, movedOver};
 ghost use Rattle.schedule.specs.Judging.{judged};
 ghost use Rattle.schedule.specs.BusyCount.{busyReply};
-ghost use Rattle.schedule.specs.Queries.{runsAnswer, runAtTick, runFromTick, stretchOf};
+ghost use Rattle.schedule.specs.RunCheck.{runsAnswer};
+ghost use Rattle.schedule.specs.Queries.{runAtTick, runFromTick, stretchOf};
 ghost use Rattle.records.specs.RecordColumns.{HeldColumns, runsHeld};
 ghost use Rattle.plans.specs.Planning.{lent, planReply, listsAfter};
 ghost use Rattle.exports.specs.FileRead.{tableRead};
@@ -164,7 +165,7 @@ fn found_from_held(columns: RunColumns, tick: u32) -> FoundRun
     found_reply(queries::run_from_held(columns, tick))
 }
 
-// What the queries refuse of a run list.
+// What the busy count and the queries refuse of a run list.
 #[no_mangle]
 pub extern "C" fn planner_check_runs(runs: &[Run]) -> Checked
     ensures { λ r. ⌜ r ≡ checkedReply (runsAnswer (now (runs .entry))) ⌝ }

@@ -15,7 +15,8 @@ use Rattle.table.proofs.FileLaws.{legal-count}
 use Rattle.schedule.specs.declared.Run.{Run}
 use Rattle.schedule.specs.declared.Found.{Found}
 use Rattle.schedule.specs.BusyCount.{shared}
-use Rattle.schedule.specs.Queries.{runsAnswer, runAtTick, runFromTick, isFound, foundRun, runsAccepted, touches, runsThat, touching}
+use Rattle.schedule.specs.RunCheck.{runsAnswer, runsAccepted}
+use Rattle.schedule.specs.Queries.{runAtTick, runFromTick, isFound, foundRun, touches, runsThat, touching}
 use Rattle.plans.specs.declared.Planned.{Planned}
 use Rattle.plans.specs.Planning.{LentLists, planRuns}
 use Rattle.plans.specs.Demands.{runsIn}

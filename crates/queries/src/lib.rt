@@ -1,7 +1,9 @@
 // Queries of a run list, whoever made it (entry points): the run at a tick, the first run that starts at a tick or after it, the caller's own runs that share
-// a tick with an interval, and the check that tells what a query refuses. The records are copied into columns once, and the search is done there.
+// a tick with an interval, and the check that tells what the queries and the busy count refuse. The records are copied into columns once, and the search is
+// done there.
 ghost use mathlib.Core.Path.{_≡_};
-ghost use Rattle.schedule.specs.Queries.{runsAnswer, runAtTick, runFromTick, touching, stretchOf, TouchingPart};
+ghost use Rattle.schedule.specs.RunCheck.{runsAnswer};
+ghost use Rattle.schedule.specs.Queries.{runAtTick, runFromTick, touching, stretchOf, TouchingPart};
 ghost use Rattle.records.specs.RecordColumns.{HeldColumns, runsHeld};
 ghost use Rattle.queries.specs.Spans.{spanOf};
 use records::RunColumns;
@@ -24,7 +26,7 @@ pub fn check_held(columns: RunColumns) -> RunsAnswer
     let n = columns.count;
     let starts = columns.starts;
     let ends = columns.ends;
-    searching::check(&starts[..n], &ends[..n])
+    checking::check(&starts[..n], &ends[..n])
 }
 
 // The run at a tick, of runs that were copied into columns.
@@ -74,7 +76,7 @@ fn span_held(columns: RunColumns, a: u32, b: u32) -> Span
     }
 }
 
-// What the queries refuse of a run list: 13, then 15.
+// What the queries and the busy count refuse of a run list: 13, then 15.
 pub fn check(runs: &[Run]) -> RunsAnswer
     ensures { λ r. ⌜ r ≡ runsAnswer (now (runs .entry)) ⌝ }
 {

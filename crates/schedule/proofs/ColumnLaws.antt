@@ -1,11 +1,11 @@
 -- Laws of runs and their columns.
-use Prim.Native.Nat.{ℕ}
-use mathlib.Core.Path.{_≡_, refl, sym}
+use Prim.Native.Nat.{ℕ, _<_}
+use mathlib.Core.Path.{_≡_, refl, sym, ap}
 use mathlib.Core.List.{List}
 use lib.Dec.{ltb}
-use lib.ListN.{length, length-map, List·getD-map}
+use lib.ListN.{length, getD, length-map, List·getD-map}
 use Rattle.base.specs.Limits.{maxRuns}
-use Rattle.base.proofs.PlaceLaws.{places-is, places-length}
+use Rattle.base.proofs.PlaceLaws.{places-is, places-length, places-at}
 use Rattle.schedule.specs.declared.Run.{Run}
 use Rattle.schedule.specs.Runs.{noRun, tooMany, runAt, runsOf, startsOf, endsOf, tasksOf}
 
@@ -25,3 +25,17 @@ columns-length starts ends tasks = places-length (runAt starts ends tasks) (leng
 pub columns-many : (starts ends tasks : List ℕ) → tooMany (runsOf starts ends tasks) ≡ ltb maxRuns (length starts)
 unfolding tooMany
 columns-many starts ends tasks = rw (columns-length starts ends tasks)
+
+module _ (starts ends tasks : List ℕ) where
+  -- at each index the list has the run of the columns, with its start and its end
+  pub runs-at : (k : ℕ) → k < length starts → getD (runsOf starts ends tasks) k noRun ≡ runAt starts ends tasks k
+  unfolding runsOf
+  runs-at k l = places-at (runAt starts ends tasks) (length starts) k noRun l
+
+  pub start-at : (k : ℕ) → k < length starts → getD (runsOf starts ends tasks) k noRun .start ≡ getD starts k 0
+  unfolding runAt
+  start-at k l = ap (λ (run : Run). run .start) (runs-at k l)
+
+  pub end-at : (k : ℕ) → k < length starts → getD (runsOf starts ends tasks) k noRun .end ≡ getD ends k 0
+  unfolding runAt
+  end-at k l = ap (λ (run : Run). run .end) (runs-at k l)

@@ -3,6 +3,7 @@ pub mod TickLaws
 pub mod RunLaws
 pub mod EmptyWindows
 pub mod JudgeLaws
+pub mod CheckLaws
 pub mod BusyLaws
 pub mod PassLaws
 pub mod VerdictLaws

@@ -1,4 +1,4 @@
--- What the check of a run list and the queries answer, in the words of the judge and of the ticks that a run holds.
+-- What the queries answer, in the words of the ticks that a run holds.
 use Prim.Native.Nat.{ℕ, zero, suc, _+_, _≤_, _<_, max}
 use mathlib.Core.Path.{_≡_, refl, sym, ap, _∙_}
 use mathlib.Core.Logic.{_↔_, inl, inr}
@@ -7,75 +7,28 @@ use mathlib.Core.Bool.{Bool, true, false}
 use mathlib.Core.Option.{Option, none, some}
 use native.Mathlib.Omega.{arith}
 use native.Mathlib.Decide.{decLt}
-use lib.Dec.{leb, eqb}
+use lib.Dec.{eqb}
 use lib.ListN.{length, getD, take, drop}
-use borrow.Author.Tests.{leb-true, leb-false, le-leb, eqb-true}
+use borrow.Author.Tests.{leb-true, leb-false, eqb-true}
 use Rattle.base.specs.Lowest.{lowest}
 use Rattle.base.specs.Members.{All, Any}
-use Rattle.base.proofs.TestLaws.{cases, both-absurd, and-true, pick-same, pick-cases}
+use Rattle.base.proofs.TestLaws.{cases, pick-same, pick-cases}
 use Rattle.base.proofs.LowestLaws.{before, passes}
-use Rattle.base.proofs.MemberLaws.{all-at, all-map}
+use Rattle.base.proofs.MemberLaws.{all-map}
 use Rattle.schedule.specs.declared.Run.{Run}
 use Rattle.schedule.specs.declared.RunsAnswer.{RunsAnswer}
 use Rattle.schedule.specs.declared.RunsAnswer.the-variants as checked
 use Rattle.schedule.specs.declared.Found.the-variants as found
 use Rattle.schedule.specs.declared.Stretch.{Stretch}
-use Rattle.schedule.specs.Runs.{noRun, tooMany, runHolds}
-use Rattle.schedule.specs.Judging.{noneEmpty, followFrom, inOrder}
-use Rattle.schedule.specs.Queries.{firstOutOfOrder, runsAnswer, firstRun, startsFrom, foundBy, runAtTick, runFromTick}
-use Rattle.schedule.specs.Queries.{touches, runsAccepted, touching, stretchOf, Unbroken}
-use Rattle.schedule.proofs.RunLaws.{run-holds, in-holds, first-follows, rest-follow}
-use Rattle.schedule.proofs.JudgeLaws.{nonempty-each}
-use Rattle.schedule.proofs.SearchLaws.{OrderedRuns, ordered-exactly, accepted-order, accepts, ends-before, first-some, first-none}
-use Rattle.schedule.proofs.StretchLaws.{touches-sides, touches-not, passing-none, all-indices, Stretched, stretched-unbroken, unbroken-runs}
+use Rattle.schedule.specs.Runs.{noRun, runHolds}
+use Rattle.schedule.specs.Judging.{noneEmpty, inOrder}
+use Rattle.schedule.specs.RunCheck.{runsAnswer, runsAccepted}
+use Rattle.schedule.specs.Queries.{firstRun, startsFrom, foundBy, runAtTick, runFromTick, touches, touching, stretchOf, Unbroken}
+use Rattle.schedule.proofs.RunLaws.{run-holds, in-holds}
+use Rattle.schedule.proofs.CheckLaws.{accepted-is, ends-before, all-indices, judge-order, accepted-ordered}
+use Rattle.schedule.proofs.SearchLaws.{first-some, first-none}
+use Rattle.schedule.proofs.StretchLaws.{touches-sides, touches-not, passing-none, Stretched, stretched-unbroken, unbroken-runs}
 use Rattle.schedule.proofs.StretchLaws.{interval-stretched, empty-stretched, stretch-is, touching-refused, stretch-refused}
-
--- The check.
-
--- in order, each run ends before the next starts, and a list of which this holds is in order
-follow-index : (from : ℕ) (runs : List Run) → followFrom from runs ≡ true
-    → (k : ℕ) → suc k < length runs → getD runs k noRun .end ≤ getD runs (suc k) noRun .start
-follow-index from [] e k l = absurd (omega arith)
-follow-index from (run ∷ []) e k l = absurd (omega arith)
-follow-index from (run ∷ next ∷ runs) e zero l = first-follows (run .end) next runs (rest-follow from run (next ∷ runs) e)
-follow-index from (run ∷ next ∷ runs) e (suc k) l =
-    follow-index (run .end) (next ∷ runs) (rest-follow from run (next ∷ runs) e) k (omega arith)
-
-index-follow : (from : ℕ) (runs : List Run) → (0 < length runs → from ≤ getD runs 0 noRun .start)
-    → ((k : ℕ) → suc k < length runs → getD runs k noRun .end ≤ getD runs (suc k) noRun .start) → followFrom from runs ≡ true
-unfolding followFrom
-index-follow from [] f h = refl
-index-follow from (run ∷ runs) f h =
-    and-true (leb from (run .start)) (followFrom (run .end) runs) (le-leb from (run .start) (f (omega arith)))
-    (index-follow (run .end) runs (λ l. h 0 (omega arith)) (λ k l. h (suc k) (omega arith)))
-
--- a list is ordered by index exactly where the judge's first two conditions hold
-judge-order : (runs : List Run) → OrderedRuns runs ↔ ((noneEmpty runs ≡ true) × (inOrder runs ≡ true))
-unfolding inOrder
-judge-order runs = (
-  λ o. (
-    nonempty-each runs .1 (all-indices (λ run. run .start < run .end) runs (o .nonempty)),
-    index-follow 0 runs (λ l. omega arith) (o .follow),
-  ),
-  λ h. record {
-    nonempty = λ k l. all-at (λ run. run .start < run .end) noRun runs k l (nonempty-each runs .0 (h .0));
-    follow = follow-index 0 runs (h .1);
-  },
-)
-
--- so the check of 15 is these two conditions, said once more by index
-pub broken-exactly : (runs : List Run) → (firstOutOfOrder runs ≡ length runs) ↔ ((noneEmpty runs ≡ true) × (inOrder runs ≡ true))
-broken-exactly runs = (
-  λ e. judge-order runs .0 (ordered-exactly runs .0 e),
-  λ h. ordered-exactly runs .1 (judge-order runs .1 h),
-)
-
--- they hold of every accepted list, and a list of which they hold is accepted, if its runs are not too many
-pub accepted-ordered : (runs : List Run) → runsAnswer runs ≡ checked.Accepted → (noneEmpty runs ≡ true) × (inOrder runs ≡ true)
-accepted-ordered runs h = judge-order runs .0 (accepted-order runs h)
-
-pub ordered-accepted : (runs : List Run) → tooMany runs ≡ false → (noneEmpty runs ≡ true) × (inOrder runs ≡ true) → runsAnswer runs ≡ checked.Accepted
-ordered-accepted runs few h = let e = broken-exactly runs .1 h in accepts runs few (omega arith)
 
 -- The first run that passes a test.
 
@@ -238,12 +191,6 @@ pub touching-unbroken : (runs : List Run) (a b : ℕ) → runsAnswer runs ≡ ch
 touching-unbroken runs a b accepted =
     let s = stands runs a b accepted in
     rw (touching-part runs a b (s .0) (s .1) accepted (s .2)) (stretched-unbroken (touches a b) runs (s .0) (s .1) (s .2))
-
--- the one answer that is accepted
-accepted-is : (answer : RunsAnswer) → runsAccepted answer ≡ true → answer ≡ checked.Accepted
-accepted-is checked.Accepted e = refl
-accepted-is checked.TooMany e = both-absurd false e refl
-accepted-is (checked.OutOfOrder index) e = both-absurd false e refl
 
 -- the stretch that the query answers is empty where there are none, and else where they stand
 stretch-cases : (runs : List Run) (a b : ℕ) (P : Stretch → Type 0) → (touching runs a b ≡ [] → P (record { first = 0; runs = 0 }))

@@ -1,123 +1,26 @@
--- Laws of run lists by index, on which the code of the queries rests: what the check of a list tells of each index, and at which indices
--- the runs stand that a query for one run answers.
+-- Laws of run lists by index, on which the code of the queries rests: at which indices the runs stand that a query for one run answers.
 use Prim.Native.Nat.{ℕ, zero, suc, _+_, _≤_, _<_}
-use mathlib.Core.Path.{_≡_, refl, ap}
-use mathlib.Core.Logic.{_↔_}
+use mathlib.Core.Path.{_≡_, refl}
 use mathlib.Core.List.{List, [], _∷_}
-use mathlib.Core.Bool.{Bool, true, false, not}
+use mathlib.Core.Bool.{Bool, true, false}
 use mathlib.Core.Option.{Option, none, some}
 use native.Mathlib.Omega.{arith}
-use native.Mathlib.Decide.{decLt, le-ind}
-use lib.Dec.{leb, ltb}
+use native.Mathlib.Decide.{decLt}
+use lib.Dec.{leb}
 use lib.ListN.{length, getD}
-use borrow.Author.Tests.{ltb-true, ltb-false, leb-true, leb-false, lt-ltb, le-ltb, le-leb, lt-leb, not-false}
+use borrow.Author.Tests.{leb-true, leb-false, le-leb, lt-leb}
 use Rattle.base.specs.Lowest.{lowest}
-use Rattle.base.proofs.TestLaws.{cases, both-absurd, or-false, or-left, or-right}
-use Rattle.base.proofs.LowestLaws.{before, passes, none-passes, lowest-bound}
+use Rattle.base.proofs.TestLaws.{both-absurd}
+use Rattle.base.proofs.LowestLaws.{before, passes}
 use Rattle.schedule.specs.declared.Run.{Run}
 use Rattle.schedule.specs.declared.RunsAnswer.{RunsAnswer}
 use Rattle.schedule.specs.declared.RunsAnswer.the-variants as checked
 use Rattle.schedule.specs.declared.Found.the-variants as found
-use Rattle.schedule.specs.Runs.{noRun, tooMany, runHolds}
-use Rattle.schedule.specs.Queries.{previousEnd, outOfOrder, firstOutOfOrder, runsAnswer, firstRun, foundBy, runAtTick, runFromTick, startsFrom}
-use Rattle.schedule.specs.Queries.{runsAccepted}
+use Rattle.schedule.specs.Runs.{noRun, runHolds}
+use Rattle.schedule.specs.RunCheck.{runsAnswer, runsAccepted}
+use Rattle.schedule.specs.Queries.{firstRun, foundBy, runAtTick, runFromTick, startsFrom}
 use Rattle.schedule.proofs.RunLaws.{in-holds, before-holds, after-holds}
-
--- The check of a run list.
-
--- too many runs are refused first, whatever they are
-pub many-refused : (runs : List Run) → tooMany runs ≡ true → runsAnswer runs ≡ checked.TooMany
-unfolding runsAnswer
-many-refused runs e = rw e
-
--- then the first index that is out of order
-pub order-refused : (runs : List Run) → tooMany runs ≡ false → firstOutOfOrder runs < length runs
-    → runsAnswer runs ≡ checked.OutOfOrder (firstOutOfOrder runs)
-unfolding runsAnswer
-order-refused runs e l = rw (e, lt-ltb (firstOutOfOrder runs) (length runs) l)
-
--- and where no index is, the list is accepted
-pub accepts : (runs : List Run) → tooMany runs ≡ false → length runs ≤ firstOutOfOrder runs → runsAnswer runs ≡ checked.Accepted
-unfolding runsAnswer
-accepts runs e l = rw (e, le-ltb (firstOutOfOrder runs) (length runs) l)
-
--- only there
-pub accepted-known : (runs : List Run) → runsAnswer runs ≡ checked.Accepted → (tooMany runs ≡ false) × (firstOutOfOrder runs ≡ length runs)
-unfolding firstOutOfOrder
-accepted-known runs h =
-    cases (tooMany runs)
-    (λ e. let q = many-refused runs e in let z : _≡_ {A = ℕ} 0 1 = cc in absurd (omega arith))
-    (λ e.
-    elim (decLt (firstOutOfOrder runs) (length runs)) [
-      | yes l ↦ let q = order-refused runs e l in let z : _≡_ {A = ℕ} 0 1 = cc in absurd (omega arith)
-      | no l ↦ (e, omega (arith, lowest-bound (outOfOrder runs) (length runs)))
-    ])
-
--- Each run of a list starts below its end, and none starts before the one listed before it ends.
-pub record OrderedRuns (runs : List Run) : Type 0 where
-  pub nonempty : (k : ℕ) → k < length runs → getD runs k noRun .start < getD runs k noRun .end
-  pub follow : (k : ℕ) → suc k < length runs → getD runs k noRun .end ≤ getD runs (suc k) noRun .start
-
--- an index is not out of order exactly where this holds there
-in-place : (runs : List Run) (k : ℕ)
-    → (outOfOrder runs k ≡ false) ↔ ((getD runs k noRun .start < getD runs k noRun .end) × (previousEnd runs k ≤ getD runs k noRun .start))
-unfolding outOfOrder
-in-place runs k =
-    let start = getD runs k noRun .start in
-    let end = getD runs k noRun .end in
-    let late = not (ltb start end) in
-    let early = ltb start (previousEnd runs k) in (
-      λ e. (
-        ltb-true start end (not-false (ltb start end) (or-left late early e)),
-        ltb-false start (previousEnd runs k) (or-right late early e),
-      ),
-      λ h. or-false late early (ap not (lt-ltb start end (h .0))) (le-ltb start (previousEnd runs k) (h .1)),
-    )
-
--- so no index is out of order exactly where the list is ordered: the first start has no end before it
-pub ordered-exactly : (runs : List Run) → (firstOutOfOrder runs ≡ length runs) ↔ OrderedRuns runs
-unfolding firstOutOfOrder
-ordered-exactly runs = (
-  λ e.
-      let each : (k : ℕ) → k < length runs → (getD runs k noRun .start < getD runs k noRun .end) × (previousEnd runs k ≤ getD runs k noRun .start)
-      = λ k l. in-place runs k .0 (before (outOfOrder runs) (length runs) k (omega arith)) in
-      record { nonempty = λ k l. each k l .0; follow = λ k l. each (suc k) l .1 },
-  λ o. none-passes (outOfOrder runs) (length runs) (λ k l. in-place runs k .1 (o .nonempty k l, previous-ended runs o k l)),
-)
-  where
-    previous-ended : (runs : List Run) → OrderedRuns runs → (k : ℕ) → k < length runs → previousEnd runs k ≤ getD runs k noRun .start
-    previous-ended runs o zero l = omega arith
-    previous-ended runs o (suc k) l = o .follow k l
-
--- an accepted list is ordered
-pub accepted-order : (runs : List Run) → runsAnswer runs ≡ checked.Accepted → OrderedRuns runs
-accepted-order runs h = ordered-exactly runs .0 (accepted-known runs h .1)
-
--- Of an ordered list starts and ends do not fall with the index.
-module _ (runs : List Run) (o : OrderedRuns runs) where
-  -- a run ends by the start of every later one
-  pub ends-before : (i k : ℕ) → i < k → k < length runs → getD runs i noRun .end ≤ getD runs k noRun .start
-  ends-before i k l =
-      le-ind (λ m. m < length runs → getD runs i noRun .end ≤ getD runs m noRun .start)
-      (λ h. o .follow i h)
-      (λ m g f h. omega (arith, f (omega arith), o .nonempty m (omega arith), o .follow m h))
-      k l
-
-  -- so starts do not fall,
-  pub starts-rise : (i k : ℕ) → i ≤ k → k < length runs → getD runs i noRun .start ≤ getD runs k noRun .start
-  starts-rise i k l h =
-      elim (decLt i k) [
-        | yes m ↦ omega (arith, o .nonempty i (omega arith), ends-before i k m h)
-        | no m ↦ let e : i ≡ k = omega arith in rw e (omega arith)
-      ]
-
-  -- and ends do not
-  pub ends-rise : (i k : ℕ) → i ≤ k → k < length runs → getD runs i noRun .end ≤ getD runs k noRun .end
-  ends-rise i k l h =
-      elim (decLt i k) [
-        | yes m ↦ omega (arith, ends-before i k m h, o .nonempty k h)
-        | no m ↦ let e : i ≡ k = omega arith in rw e (omega arith)
-      ]
+use Rattle.schedule.proofs.CheckLaws.{accepted-order, starts-rise}
 
 -- The first run that passes a test.
 

@@ -1,5 +1,5 @@
 -- Laws of the query for an interval: which runs share a tick with it, and that those of an accepted list are one unbroken stretch of it.
-use Prim.Native.Nat.{ℕ, suc, _+_, _-_, _≤_, _<_, min, max}
+use Prim.Native.Nat.{ℕ, _+_, _-_, _≤_, _<_, min, max}
 use mathlib.Core.Path.{_≡_, refl, sym, ap, _∙_}
 use mathlib.Core.Logic.{_↔_}
 use mathlib.Core.List.{List, [], _∷_, _++_, append-nil}
@@ -18,9 +18,11 @@ use Rattle.base.proofs.LowestLaws.{before, passes, lowest-bound, lowest-least}
 use Rattle.schedule.specs.declared.Run.{Run}
 use Rattle.schedule.specs.declared.RunsAnswer.the-variants as checked
 use Rattle.schedule.specs.Runs.{noRun}
+use Rattle.schedule.specs.RunCheck.{runsAnswer, runsAccepted}
 use Rattle.schedule.specs.BusyCount.{shared}
-use Rattle.schedule.specs.Queries.{runsAnswer, touches, runsThat, runsAccepted, touching, stretchOf, Unbroken}
-use Rattle.schedule.proofs.SearchLaws.{accepted-order, starts-rise, ends-rise, endsAfter, startsFromAt, firstEnding, firstStarting}
+use Rattle.schedule.specs.Queries.{touches, runsThat, touching, stretchOf, Unbroken}
+use Rattle.schedule.proofs.CheckLaws.{accepted-order, starts-rise, ends-rise, all-indices}
+use Rattle.schedule.proofs.SearchLaws.{endsAfter, startsFromAt, firstEnding, firstStarting}
 use Rattle.schedule.proofs.SearchLaws.{ended-before, ending-after, started-before, starting-from}
 
 -- Which runs share a tick with an interval.
@@ -78,11 +80,6 @@ pub record Stretched (test : Run → Bool) (runs : List Run) (first count : ℕ)
   pub inside : (k : ℕ) → first ≤ k → k < first + count → test (getD runs k noRun) ≡ true
   pub before : (k : ℕ) → k < first → test (getD runs k noRun) ≡ false
   pub behind : (k : ℕ) → first + count ≤ k → k < length runs → test (getD runs k noRun) ≡ false
-
--- what holds at each index holds of all members
-pub all-indices : (P : Run → Type 0) (runs : List Run) → ((k : ℕ) → k < length runs → P (getD runs k noRun)) → All P runs
-all-indices P [] h = tt
-all-indices P (run ∷ runs) h = (h 0 (omega arith), all-indices P runs (λ k l. h (suc k) (omega arith)))
 
 module _ (test : Run → Bool) (runs : List Run) (first count : ℕ) (s : Stretched test runs first count) where
   -- so they are one unbroken part of the list

@@ -3,6 +3,7 @@ pub mod Ticks
 pub mod Runnings
 pub mod Runs
 pub mod Judging
+pub mod RunCheck
 pub mod BusyCount
 pub mod Queries
 pub mod Passing

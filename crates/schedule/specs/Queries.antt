@@ -1,12 +1,13 @@
 -- Queries of a run list, whoever made it: the run at a tick, the first run that starts at or after a tick, and the runs that share a tick with an interval.
-use Prim.Native.Nat.{ℕ, zero, suc}
+-- What the check refuses, they refuse.
+use Prim.Native.Nat.{ℕ}
 use mathlib.Core.List.{List, [], _∷_, _++_}
 use mathlib.Core.Path.{_≡_}
-use mathlib.Core.Bool.{Bool, true, false, not}
+use mathlib.Core.Bool.{Bool, true, false}
 use mathlib.Core.Option.{Option, none, some}
 use lib.Dec.{leb, ltb, eqb}
 use lib.ListN.{length, getD}
-use Rattle.base.specs.Tests.{pick, or}
+use Rattle.base.specs.Tests.{pick}
 use Rattle.base.specs.Lowest.{lowest}
 use Rattle.base.specs.Members.{All}
 use Rattle.schedule.specs.declared.Run.{Run}
@@ -15,41 +16,9 @@ use Rattle.schedule.specs.declared.RunsAnswer.the-variants as checked
 use Rattle.schedule.specs.declared.Found.{Found}
 use Rattle.schedule.specs.declared.Found.the-variants as found
 use Rattle.schedule.specs.declared.Stretch.{Stretch}
-use Rattle.schedule.specs.Runs.{noRun, tooMany, runHolds}
+use Rattle.schedule.specs.Runs.{noRun, runHolds}
+use Rattle.schedule.specs.RunCheck.{runsAnswer, runsAccepted}
 use Rattle.schedule.specs.BusyCount.{shared}
-
--- Refusals: 13, then 15 with the index of the first run whose start is not below its end or lies before the previous end.
-
--- the end of the run before index k; before the first run there is none, and no start lies before tick 0
-abbrev pub previousEnd : List Run → ℕ → ℕ
-previousEnd runs zero = 0
-previousEnd runs (suc k) = getD runs k noRun .end
-
--- the start of the run at index k is not below its end, or lies before the previous end
-unfoldable pub outOfOrder : List Run → ℕ → Bool
-outOfOrder runs k =
-    or (not (ltb (getD runs k noRun .start) (getD runs k noRun .end))) (ltb (getD runs k noRun .start) (previousEnd runs k))
-
--- the index of the first run that is out of order, and the number of runs where none is
-unfoldable pub firstOutOfOrder : List Run → ℕ
-firstOutOfOrder runs = lowest (outOfOrder runs) (length runs)
-
--- what the check of a run list answers
-unfoldable pub runsAnswer : List Run → RunsAnswer
-runsAnswer runs =
-    pick (tooMany runs) checked.TooMany
-    (pick (ltb (firstOutOfOrder runs) (length runs)) (checked.OutOfOrder (firstOutOfOrder runs)) checked.Accepted)
-
--- the number and the place of each of its cases
-abbrev pub runsNumber : RunsAnswer → ℕ
-runsNumber checked.Accepted = 0
-runsNumber checked.TooMany = 13
-runsNumber (checked.OutOfOrder index) = 15
-
-abbrev pub runsPlace : RunsAnswer → ℕ
-runsPlace checked.Accepted = 0
-runsPlace checked.TooMany = 0
-runsPlace (checked.OutOfOrder index) = index
 
 -- The two queries for one run.
 
@@ -112,12 +81,6 @@ touches a b run = ltb 0 (shared a b run)
 unfoldable pub runsThat : (Run → Bool) → List Run → List Run
 runsThat test [] = []
 runsThat test (run ∷ runs) = pick (test run) (run ∷ runsThat test runs) (runsThat test runs)
-
--- the check accepts the run list
-abbrev pub runsAccepted : RunsAnswer → Bool
-runsAccepted checked.Accepted = true
-runsAccepted checked.TooMany = false
-runsAccepted (checked.OutOfOrder index) = false
 
 -- the runs that share a tick with the interval, all of them and no other; none where the list is refused
 unfoldable pub touching : List Run → ℕ → ℕ → List Run

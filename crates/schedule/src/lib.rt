@@ -8,7 +8,8 @@ ghost use Rattle.base.specs.Tests.{pick};
 ghost use Rattle.base.specs.Places.{places};
 ghost use Rattle.table.specs.Tables.{taskAt};
 ghost use Rattle.clock.specs.Clock.{LegalPeriod};
-ghost use Rattle.schedule.specs.Queries.{runsNumber, runsPlace, foundNumber, foundPlace, isFound, foundRun};
+ghost use Rattle.schedule.specs.RunCheck.{runsNumber, runsPlace};
+ghost use Rattle.schedule.specs.Queries.{foundNumber, foundPlace, isFound, foundRun};
 ghost use Rattle.schedule.specs.Jobs.{noJob, jobOf, jobAt, windowTicks};
 use base::MAX_RUNS;
 use base::MAX_TASKS;
@@ -59,7 +60,7 @@ pub struct Judged {
     pub discarded: u32,
 }
 
-// The reply of the busy count: the refusal's number and place, or 0 and the sum.
+// The reply of the busy count: the refusal's number and place, or 0 and the ticks of the interval that some run holds.
 #[repr(C)]
 pub struct Busy {
     pub number: u32,
@@ -67,8 +68,8 @@ pub struct Busy {
     pub ticks: u64,
 }
 
-// What the check of a run list answers, before anything is asked of it: it is accepted, or it has too many runs, or the run at an index is the first that
-// is out of order.
+// What the check of a run list answers, before anything is counted in it or asked of it: it is accepted, or it has too many runs, or the run at an index
+// is the first that is out of order.
 pub enum RunsAnswer {
     Accepted,
     TooMany,

@@ -1,5 +1,5 @@
-// The search over run columns that every query rests on: the check of the list, and a search by halving. A list that the check accepts is ordered, so that
-// its starts rise, and so do its ends.
+// The search over run columns that every query rests on: a list that the check accepts is ordered, so that its starts rise, and so do its ends, and a run
+// is found by halving.
 ghost use mathlib.Core.Path.{_≡_};
 ghost use mathlib.Core.List.{List};
 ghost use mathlib.Core.Option.{none};
@@ -9,7 +9,7 @@ ghost use lib.ListN.{length, getD};
 ghost use Rattle.base.specs.Limits.{maxRuns};
 ghost use Rattle.base.specs.Lowest.{lowest};
 ghost use Rattle.schedule.specs.Runs.{runAt, runsOf};
-ghost use Rattle.schedule.specs.Queries.{firstOutOfOrder, runsAnswer, foundBy, runAtTick, runFromTick, stretchOf};
+ghost use Rattle.schedule.specs.Queries.{foundBy, runAtTick, runFromTick, stretchOf};
 use schedule::Found;
 use schedule::Run;
 use schedule::RunsAnswer;
@@ -17,44 +17,6 @@ use schedule::Stretch;
 
 // An empty stretch.
 const NO_STRETCH: Stretch = Stretch { first: 0, runs: 0 };
-
-// The index of the first run whose start is not below its end or lies before the previous end, and the number of runs where there is none.
-fn first_out_of_order(starts: &[u32], ends: &[u32]) -> usize
-    requires { ⌜ length (now starts) ≡ length (now ends) ⌝ }
-    ensures { λ r. ⌜ ((tasks : List ℕ) → r ≡ firstOutOfOrder (runsOf (now (starts .entry)) (now (ends .entry)) tasks)) ⌝ }
-{
-    let mut previous: u32 = 0;
-    let mut i: usize = 0;
-    while i < starts.len() {
-        let start = starts[i];
-        let end = ends[i];
-        if end <= start {
-            return i;
-        }
-        if start < previous {
-            return i;
-        }
-        previous = end;
-        i += 1;
-    }
-    i
-}
-
-// The check of a run list: 13, then 15.
-pub fn check(starts: &[u32], ends: &[u32]) -> RunsAnswer
-    requires { ⌜ length (now starts) ≡ length (now ends) ⌝ }
-    ensures { λ r. ⌜ ((tasks : List ℕ) → r ≡ runsAnswer (runsOf (now (starts .entry)) (now (ends .entry)) tasks)) ⌝ }
-{
-    let count = starts.len();
-    if schedule::too_many(count) {
-        return RunsAnswer::TooMany;
-    }
-    let broken = first_out_of_order(starts, ends);
-    if broken < count {
-        return RunsAnswer::OutOfOrder(broken);
-    }
-    RunsAnswer::Accepted
-}
 
 // The first place of a column that does not fall whose number is at least the bound, and the column's length where there is none. Each step halves what
 // is left, so that 4,096 numbers take 12 steps, and one number is looked at behind them.
@@ -109,7 +71,7 @@ pub fn run_at(starts: &[u32], ends: &[u32], tasks: &[u32], tick: u32) -> Found
     requires { ⌜ (length (now starts) ≡ length (now ends)) × (length (now starts) ≡ length (now tasks)) ⌝ }
     ensures { λ r. ⌜ r ≡ runAtTick (runsOf (now (starts .entry)) (now (ends .entry)) (now (tasks .entry))) tick ⌝ }
 {
-    let answer = check(starts, ends);
+    let answer = checking::check(starts, ends);
     let RunsAnswer::Accepted = answer else {
         return refused(answer);
     };
@@ -128,7 +90,7 @@ pub fn run_from(starts: &[u32], ends: &[u32], tasks: &[u32], tick: u32) -> Found
     requires { ⌜ (length (now starts) ≡ length (now ends)) × (length (now starts) ≡ length (now tasks)) ⌝ }
     ensures { λ r. ⌜ r ≡ runFromTick (runsOf (now (starts .entry)) (now (ends .entry)) (now (tasks .entry))) tick ⌝ }
 {
-    let answer = check(starts, ends);
+    let answer = checking::check(starts, ends);
     let RunsAnswer::Accepted = answer else {
         return refused(answer);
     };
@@ -144,7 +106,7 @@ pub fn stretch(starts: &[u32], ends: &[u32], a: u32, b: u32) -> Stretch
     requires { ⌜ length (now starts) ≡ length (now ends) ⌝ }
     ensures { λ r. ⌜ ((tasks : List ℕ) → r ≡ stretchOf (runsOf (now (starts .entry)) (now (ends .entry)) tasks) a b) ⌝ }
 {
-    let answer = check(starts, ends);
+    let answer = checking::check(starts, ends);
     let RunsAnswer::Accepted = answer else {
         return NO_STRETCH;
     };

@@ -3,7 +3,7 @@ use Prim.Native.Nat.{ℕ}
 use mathlib.Core.Path.{_≡_, ap, _∙_}
 use borrow.Author.Needs.{needs}
 use Rattle.schedule.specs.declared.RunsAnswer.{RunsAnswer}
-use Rattle.schedule.specs.Queries.{runsNumber, runsPlace}
+use Rattle.schedule.specs.RunCheck.{runsNumber, runsPlace}
 use Rattle.exports.specs.declared.Checked.{Checked}
 use Rattle.exports.specs.QueryReplies.{checkedReply}
 use Rattle.exports.proofs.checked_held.Statement.{statement}

@@ -3,7 +3,7 @@ use contract.Running.{givenOf}
 use denote.Struct.Laws as LL
 use mathlib.Core.Path.{ap}
 use Rattle.exports.specs.QueryReplies.{checkedReply}
-use Rattle.schedule.specs.Queries.{runsAnswer}
+use Rattle.schedule.specs.RunCheck.{runsAnswer}
 use Rattle.schedule.proofs.ManyRuns.{check-many}
 use Rattle.exports.proofs.Checked as mChecked
 use Rattle.exports.proofs.Checked.Laws as mChecked′

@@ -1,7 +1,7 @@
 -- `queries::check` meets its contract: it is `check_held` of the runs' columns.
 use contract.Running.{givenOf}
 use denote.Enum.Laws as EL
-use Rattle.schedule.specs.Queries.{runsAnswer}
+use Rattle.schedule.specs.RunCheck.{runsAnswer}
 use Rattle.schedule.proofs.ManyRuns.{check-many}
 use Rattle.schedule.proofs.RunsAnswer as mRunsAnswer
 use Rattle.schedule.proofs.RunsAnswer.Laws as mRunsAnswer′

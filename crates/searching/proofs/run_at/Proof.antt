@@ -13,10 +13,12 @@ use Rattle.schedule.specs.declared.RunsAnswer.{RunsAnswer}
 use Rattle.schedule.specs.declared.RunsAnswer.the-variants as checked
 use Rattle.schedule.specs.declared.Found.the-variants as found
 use Rattle.schedule.specs.Runs.{noRun, runAt, runsOf}
-use Rattle.schedule.specs.Queries.{runsAnswer, runsAccepted, foundBy, runAtTick}
-use Rattle.schedule.proofs.ColumnLaws.{columns-length}
+use Rattle.schedule.specs.RunCheck.{runsAnswer, runsAccepted}
+use Rattle.schedule.specs.Queries.{foundBy, runAtTick}
+use Rattle.schedule.proofs.ColumnLaws.{columns-length, runs-at, start-at}
 use Rattle.schedule.proofs.SearchLaws.{at-refused, at-found, at-ended, at-not-begun, firstEnding}
-use Rattle.searching.proofs.ColumnLaws.{told-refused, runs-at, start-at, ending-first, columns-few, ends-column}
+use Rattle.checking.proofs.OrderLaws.{told-refused, columns-few}
+use Rattle.searching.proofs.ColumnLaws.{ending-first, ends-column}
 use Rattle.searching.proofs.run_at.Statement.{statement}
 use Rattle.searching.proofs.run_at.Tie as tie
 

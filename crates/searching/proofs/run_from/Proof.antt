@@ -13,10 +13,12 @@ use Rattle.schedule.specs.declared.RunsAnswer.{RunsAnswer}
 use Rattle.schedule.specs.declared.RunsAnswer.the-variants as checked
 use Rattle.schedule.specs.declared.Found.the-variants as found
 use Rattle.schedule.specs.Runs.{noRun, runAt, runsOf}
-use Rattle.schedule.specs.Queries.{runsAnswer, runsAccepted, foundBy, runFromTick}
-use Rattle.schedule.proofs.ColumnLaws.{columns-length}
+use Rattle.schedule.specs.RunCheck.{runsAnswer, runsAccepted}
+use Rattle.schedule.specs.Queries.{foundBy, runFromTick}
+use Rattle.schedule.proofs.ColumnLaws.{columns-length, runs-at}
 use Rattle.schedule.proofs.SearchLaws.{from-refused, from-found, from-started, firstStarting}
-use Rattle.searching.proofs.ColumnLaws.{told-refused, runs-at, starting-first, columns-few, starts-column}
+use Rattle.checking.proofs.OrderLaws.{told-refused, columns-few}
+use Rattle.searching.proofs.ColumnLaws.{starting-first, starts-column}
 use Rattle.searching.proofs.run_from.Statement.{statement}
 use Rattle.searching.proofs.run_from.Tie as tie
 

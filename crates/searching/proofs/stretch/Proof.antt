@@ -12,9 +12,11 @@ use Rattle.base.specs.Lowest.{lowest}
 use Rattle.schedule.specs.declared.RunsAnswer.the-variants as checked
 use Rattle.schedule.specs.declared.Stretch.{Stretch}
 use Rattle.schedule.specs.Runs.{runsOf}
-use Rattle.schedule.specs.Queries.{runsAnswer, runsAccepted, touches, stretchOf}
+use Rattle.schedule.specs.RunCheck.{runsAnswer, runsAccepted}
+use Rattle.schedule.specs.Queries.{touches, stretchOf}
 use Rattle.schedule.proofs.StretchLaws.{Stretched, interval-stretched, empty-stretched, stretch-is, stretch-refused}
-use Rattle.searching.proofs.ColumnLaws.{told-refused, ending-first, starting-first, columns-few, starts-column, ends-column}
+use Rattle.checking.proofs.OrderLaws.{told-refused, columns-few}
+use Rattle.searching.proofs.ColumnLaws.{ending-first, starting-first, starts-column, ends-column}
 use Rattle.searching.proofs.stretch.Statement.{statement}
 use Rattle.searching.proofs.stretch.Tie as tie
 

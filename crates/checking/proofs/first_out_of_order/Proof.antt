@@ -1,4 +1,4 @@
--- `searching::first_out_of_order` meets its contract. The loop's invariant: no index below `i` is out of order, and `previous` is the end before it.
+-- `checking::first_out_of_order` meets its contract. The loop's invariant: no index below `i` is out of order, and `previous` is the end before it.
 use Prim.Native.Nat.{_-_}
 use mathlib.Core.Path.{_≡_, refl, _∙_}
 use native.Mathlib.Omega.{arith}
@@ -6,9 +6,9 @@ use native.Mathlib.Numerals.{add-one}
 use borrow.Author.Needs.{needs}
 use lib.ListN.{length}
 use Rattle.base.proofs.LowestLaws.{Searched, search-start, search-found, search-passed, search-end}
-use Rattle.searching.proofs.ColumnLaws.{endBefore, broken, broken-empty, broken-early, broken-not, broken-first}
-use Rattle.searching.proofs.first_out_of_order.Statement.{statement}
-use Rattle.searching.proofs.first_out_of_order.Tie as tie
+use Rattle.checking.proofs.OrderLaws.{endBefore, broken, broken-empty, broken-early, broken-not, broken-first}
+use Rattle.checking.proofs.first_out_of_order.Statement.{statement}
+use Rattle.checking.proofs.first_out_of_order.Tie as tie
 
 abbrev Inv-loop : tie.InvT-loop
 Inv-loop starts ends previous₀ i₀ previous i = Searched (broken starts ends) (length starts) i × (previous ≡ endBefore ends i)

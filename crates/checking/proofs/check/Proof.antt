@@ -1,4 +1,4 @@
--- `searching::check` meets its contract: 13 by the number of starts, then 15 by the first index that is out of order.
+-- `checking::check` meets its contract: 13 by the number of starts, then 15 by the first index that is out of order.
 use Prim.Native.Nat.{ℕ, _≤_, _<_}
 use mathlib.Core.Path.{_≡_, sym, ap, _∙_}
 use mathlib.Core.Bool.{Bool, true, false}
@@ -10,17 +10,16 @@ use lib.ListN.{length}
 use Rattle.base.specs.Limits.{maxRuns}
 use Rattle.schedule.specs.declared.RunsAnswer.the-variants as checked
 use Rattle.schedule.specs.Runs.{tooMany, runsOf}
-use Rattle.schedule.specs.Queries.{firstOutOfOrder, runsAnswer}
-use Rattle.schedule.proofs.ColumnLaws.{columns-length}
-use Rattle.schedule.proofs.SearchLaws.{many-refused, order-refused, accepts}
-use Rattle.searching.proofs.check.Statement.{statement}
-use Rattle.searching.proofs.check.Tie as tie
+use Rattle.schedule.specs.RunCheck.{firstOutOfOrder, runsAnswer}
+use Rattle.schedule.proofs.ColumnLaws.{columns-length, columns-many}
+use Rattle.schedule.proofs.CheckLaws.{many-refused, order-refused, accepts}
+use Rattle.checking.proofs.check.Statement.{statement}
+use Rattle.checking.proofs.check.Tie as tie
 
 -- the three answers, by the columns
 module _ (starts ends tasks : List ℕ) (many : Bool) (m : many ≡ ltb maxRuns (length starts)) where
   many-is : tooMany (runsOf starts ends tasks) ≡ many
-  unfolding tooMany
-  many-is = rw (columns-length starts ends tasks) (sym m)
+  many-is = columns-many starts ends tasks ∙ sym m
 
   says-many : many ≡ true → checked.TooMany ≡ runsAnswer (runsOf starts ends tasks)
   says-many e = sym (many-refused (runsOf starts ends tasks) (many-is ∙ e))
