@@ -1,12 +1,13 @@
-// The busy count of an interval (an entry point): over all runs, the ticks that the run shares with the interval.
+// The busy count of an interval (an entry point): the ticks of the interval that some run holds, added run by run over a list that the check accepts.
 ghost use mathlib.Core.Path.{_≡_};
 ghost use lib.ListN.{length};
 ghost use Rattle.records.specs.RecordColumns.{HeldColumns, runsHeld};
 ghost use Rattle.schedule.specs.Runs.{runsOf};
-ghost use Rattle.schedule.specs.BusyCount.{shared, busyReply};
+ghost use Rattle.schedule.specs.BusyCount.{shared, busyReply, CountsTicks};
 use records::RunColumns;
 use schedule::Busy;
 use schedule::Run;
+use schedule::RunsAnswer;
 
 // The ticks that the run from `start` to `end` shares with the interval from `a` to `b`.
 fn shared_ticks(start: u32, end: u32, a: u32, b: u32) -> u64
@@ -20,18 +21,19 @@ fn shared_ticks(start: u32, end: u32, a: u32, b: u32) -> u64
     0
 }
 
-// The busy count over runs that stand in three columns of one length. The sum is meant for runs that do not overlap, and is taken over any.
+// The busy count over runs that stand in three columns of one length.
 pub fn busy_columns(starts: &[u32], ends: &[u32], tasks: &[u32], a: u32, b: u32) -> Busy
     requires { ⌜ (length (now starts) ≡ length (now ends)) × (length (now starts) ≡ length (now tasks)) ⌝ }
     ensures { λ r. ⌜ r ≡ busyReply (runsOf (now (starts .entry)) (now (ends .entry)) (now (tasks .entry))) a b ⌝ }
 {
-    if schedule::too_many(starts.len()) {
+    let answer = checking::check(starts, ends);
+    let RunsAnswer::Accepted = answer else {
         return Busy {
-            number: 13,
-            place: 0,
+            number: answer.number(),
+            place: answer.place(),
             ticks: 0,
         };
-    }
+    };
     let mut ticks: u64 = 0;
     let mut i: usize = 0;
     while i < starts.len() {
@@ -57,10 +59,11 @@ pub fn busy_held(columns: RunColumns, a: u32, b: u32) -> Busy
     busy_columns(&starts[..n], &ends[..n], &tasks[..n], a, b)
 }
 
-// The busy count: a run list of any content and length and any interval get the reply of document 01. The sum is meant for runs that do not overlap, and is
-// taken over any.
+// The busy count: a run list of any content and length and any interval get the reply of documents 01 and 02, and an accepted count is the number of ticks
+// of the interval that some run holds.
 pub fn busy(runs: &[Run], a: u32, b: u32) -> Busy
-    ensures { λ r. ⌜ r ≡ busyReply (now (runs .entry)) a b ⌝ }
+    ensures reply { λ r. ⌜ r ≡ busyReply (now (runs .entry)) a b ⌝ }
+    ensures counts_ticks { λ r. ⌜ CountsTicks (now (runs .entry)) a b r ⌝ }
 {
     busy_held(records::columns_of(runs), a, b)
 }

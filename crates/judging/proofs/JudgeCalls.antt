@@ -1,5 +1,5 @@
 -- Functions that judge a table by a slice of run records: `judge_held(file, launch, marks, records::columns_of(runs))`. What such a function returns
--- is what `judged` says of the whole list, and of a result that is so it may promise anything that needs no more (`promise`). It is shown here once,
+-- is what `judged` says of the whole list, and it may promise whatever follows from that (`promise`). It is shown here once,
 -- by a walk of the MIR. All that the walk knows of what is called is that it meets its contract.
 -- Assumes nothing.
 use mathlib.Core.Path.{_≡_, refl, sym, _∙_, ap, subst}

@@ -2,7 +2,6 @@
 use Prim.Native.Nat.{ℕ, zero, suc, _+_, _-_, _*_, _≤_, min}
 use mathlib.Core.Path.{_≡_, refl}
 use mathlib.Core.List.{List, [], _∷_}
-use mathlib.Core.Bool.{Bool, true, false}
 use native.Mathlib.Nat.{zero-min, zero-sub}
 use native.Mathlib.Omega.{arith}
 use lib.Dec.{ltb}
@@ -12,17 +11,13 @@ use Rattle.base.proofs.TestLaws.{cases}
 use Rattle.schedule.specs.declared.Job.{Job}
 use Rattle.schedule.specs.Ticks.{one}
 use Rattle.schedule.specs.declared.Run.{Run}
+use Rattle.schedule.proofs.TickLaws.{one-most}
 use Rattle.placement.specs.GapFilling.{addRun, fill, worksFilled}
 
 -- how many runs there are, and how many gaps of free ticks above a run; the first gap is measured from `top`
 runsAndGaps : ℕ → List Run → ℕ
 runsAndGaps top [] = 0
 runsAndGaps top (run ∷ runs) = one (ltb (run .end) top) + 1 + runsAndGaps (run .start) runs
-
--- a test counts 1 at most
-one-most : (test : Bool) → one test ≤ 1
-one-most true = omega arith
-one-most false = omega arith
 
 -- the runs are no more than the runs and gaps
 length-most : (top : ℕ) (runs : List Run) → length runs ≤ runsAndGaps top runs

@@ -1,4 +1,4 @@
--- Plans and queries: the run list of every plan is accepted by the queries' check.
+-- Plans, queries and the busy count: the run list of every plan is accepted by their check.
 use Prim.Native.Nat.{ℕ}
 use mathlib.Core.Path.{_≡_}
 use mathlib.Core.Bool.{true}
@@ -10,9 +10,12 @@ use Rattle.table.specs.declared.Table.{Table}
 use Rattle.table.specs.Writing.{Legal}
 use Rattle.table.proofs.FileLaws.{legal-count}
 use Rattle.schedule.specs.declared.RunsAnswer.the-variants as checked
-use Rattle.schedule.specs.Runs.{tooMany}
-use Rattle.schedule.specs.Queries.{runsAnswer}
-use Rattle.schedule.proofs.QueryLaws.{ordered-accepted}
+use Rattle.schedule.specs.Ticks.{ticksOwned}
+use Rattle.schedule.specs.Runs.{tooMany, ownerOf}
+use Rattle.schedule.specs.RunCheck.{runsAnswer}
+use Rattle.schedule.specs.BusyCount.{busyReply}
+use Rattle.schedule.proofs.CheckLaws.{ordered-accepted}
+use Rattle.schedule.proofs.BusyLaws.{sum-owned}
 use Rattle.plans.specs.Planning.{mandatoryFit, planRuns}
 use Rattle.plans.proofs.PlanLaws.{plan-listed, plan-few}
 
@@ -24,3 +27,11 @@ plan-asked launch t legal fit =
     let listed = plan-listed launch t legal fit in
     let few = le-ltb maxRuns (length (planRuns launch t)) (omega (arith, plan-few launch t legal fit, legal-count legal)) in
     ordered-accepted (planRuns launch t) few (listed .nonempty, listed .ordered)
+
+-- Nor is its busy count, which is the number of ticks of the interval that the plan's runs hold.
+pub plan-counted : (launch : ℕ) (t : Table) → Legal t → mandatoryFit launch t ≡ true
+    → (a b : ℕ) → busyReply (planRuns launch t) a b ≡ record { number = 0; place = 0; ticks = ticksOwned (ownerOf (planRuns launch t)) a b }
+unfolding busyReply
+plan-counted launch t legal fit a b =
+    let accepted = plan-asked launch t legal fit in
+    rw (accepted, sum-owned (planRuns launch t) accepted a b)

@@ -5,7 +5,8 @@ use Rattle.schedule.specs.declared.Run.{Run}
 use Rattle.schedule.specs.declared.RunsAnswer.{RunsAnswer}
 use Rattle.schedule.specs.declared.Found.{Found}
 use Rattle.schedule.specs.declared.Busy.{Busy}
-use Rattle.schedule.specs.Queries.{runsAnswer, runAtTick, runFromTick, touching}
+use Rattle.schedule.specs.RunCheck.{runsAnswer}
+use Rattle.schedule.specs.Queries.{runAtTick, runFromTick, touching}
 use Rattle.schedule.specs.BusyCount.{busyReply}
 use Rattle.records.specs.declared.RunColumns.{RunColumns}
 use Rattle.records.specs.RecordColumns.{columnsOf}

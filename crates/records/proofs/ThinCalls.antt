@@ -1,7 +1,7 @@
 -- Functions over a slice of run records that turn it to columns and pass these on: `h(records::columns_of(runs), p..)`, where h asks that the columns
 -- hold their runs, and returns the reply of the runs that they hold. Such a function returns the reply of the whole list, where all lists of too many
--- runs get one reply. It is shown here once for each number of further parameters p, all of them u32, by a walk of the MIR. All that the walk knows
--- of what is called is that it meets its contract.
+-- runs get one reply, and it may promise whatever follows from that (`promise`). It is shown here once for each number of further
+-- parameters p, all of them u32, by a walk of the MIR. All that the walk knows of what is called is that it meets its contract.
 -- Assumes nothing.
 use mathlib.Core.Path.{_≡_, refl, sym, _∙_, ap, subst}
 use Prim.Native.Nat.{ℕ}
@@ -18,7 +18,7 @@ use prog.Routine.{Routine, Env}
 use prog.Wp.{Heap, Closed, WpFn, Tables}
 use ghost.Atoms.{Atoms, sem}
 use contract.Lifetimes.{Lfts}
-use contract.Monad.{Fun, fact}
+use contract.Monad.{Fun, fact, factI}
 use contract.Running.{GhostRules, Running, givenOf, tables, tablesOf}
 use types.Kit.{Given, ‵, raw, _⊛_, ⋆, _$_, _∵_, !, qed, move, drop, use0, use1, use2, split, join, fsplit, fjoin, suffices, frame, done}
 use types.Run.{look, init, forget, and-then, no-more, land, returns, enter, alloc1, alloc0, params1, pass1, pass0, free1, free0}
@@ -48,7 +48,7 @@ use Rattle.schedule.proofs.Run as mRun
 use Rattle.records.specs.RecordColumns.{columnsOf, runsHeld, HeldColumns}
 use Rattle.records.specs.declared.RunColumns.{RunColumns}
 use Rattle.records.proofs.HeldLaws.{columns-held, held-reply}
-use Rattle.records.proofs.Walking.{spot, value, returned}
+use Rattle.records.proofs.Walking.{spot, value, returned, says-all}
 use Rattle.records.proofs.RunColumns as mRunColumns
 use Rattle.records.proofs.RunColumns.Laws as mRunColumns′
 use Rattle.records.proofs.columns_of as g
@@ -159,20 +159,29 @@ module _ (F : Shape) (R : RattleType) where
     kept = (yes, all-kept (F .slots 0));
   }
 
-  -- and by what they promise: the reply of the runs, and of the runs that the columns hold
-  module _ {M : Type 1} (𝓤 : URA M) (H : Heap 𝓤) (A : Atoms 𝓤) (reply : List Run → F .Values → R .Denot) where
-    abbrev thin-says : Clauses 𝓤 thin
-    thin-says κs a = record { ghost = Unit {0}; requires = λ _. emp 𝓤; ensures = λ _ r _. fact 𝓤 (r ≡ reply (a .0 .now) (F .values 1 κs (a .1))) }
+  -- what is promised of the runs, the values and the result
+  abbrev Promise : {M : Type 1} (𝓤 : URA M) → Type 2
+  Promise 𝓤 = List Run → F .Values → R .Denot → SProp 𝓤
 
+  -- a promise that is kept by a result that is the reply
+  abbrev Kept : {M : Type 1} (𝓤 : URA M) → (List Run → F .Values → R .Denot) → Promise 𝓤 → Type 1
+  Kept 𝓤 reply promise = (runs : List Run) (a : F .Values) (r : R .Denot) → r ≡ reply runs a → ent 𝓤 (emp 𝓤) (promise runs a r)
+
+  -- the function and h by what they say: what is promised, and the reply of the runs that the columns hold
+  module _ {M : Type 1} (𝓤 : URA M) (H : Heap 𝓤) (A : Atoms 𝓤) where
+    abbrev thin-says : Promise 𝓤 → Clauses 𝓤 thin
+    thin-says promise κs a = record { ghost = Unit {0}; requires = λ _. emp 𝓤; ensures = λ _ r _. promise (a .0 .now) (F .values 1 κs (a .1)) r }
+
+    abbrev promised : Promise 𝓤 → Contract 𝓤
+    promised promise = tripleOf 𝓤 H A (thin .signature) (closing 𝓤 H A thin (thin-says promise))
+
+  module _ {M : Type 1} (𝓤 : URA M) (H : Heap 𝓤) (A : Atoms 𝓤) (reply : List Run → F .Values → R .Denot) where
     abbrev held-says : Clauses 𝓤 held
     held-says κs a = record {
       ghost = Unit {0};
       requires = λ _. fact 𝓤 (HeldColumns (a .0));
       ensures = λ _ r _. fact 𝓤 (r ≡ reply (runsHeld (a .0)) (F .values 0 κs (a .1)));
     }
-
-    abbrev promised : Contract 𝓤
-    promised = tripleOf 𝓤 H A (thin .signature) (closing 𝓤 H A thin thin-says)
 
     abbrev asked : Contract 𝓤
     asked = tripleOf 𝓤 H A (held .signature) (closing 𝓤 H A held held-says)
@@ -185,13 +194,28 @@ module _ (F : Shape) (R : RattleType) where
   abbrev OneReply : (List Run → F .Values → R .Denot) → Type 0
   OneReply reply = (a : F .Values) → OneForMany (λ runs. reply runs a)
 
-  -- the function meets its contract, where an environment has its code, h and `records::columns_of`
+  -- the function keeps its promise, where an environment has its code, h and `records::columns_of`
+  abbrev Keeps : {M : Type 1} (𝓤 : URA M) (H : Heap 𝓤) (𝓜 : Model 𝓤 H) (𝓖 : GhostRules 𝓤 H) (𝓡 : Running 𝓤 H 𝓜) → Type 2
+  Keeps 𝓤 H 𝓜 𝓖 𝓡 =
+      (τ : Ty) → OfType τ → (reply : List Run → F .Values → R .Denot) → OneReply reply → (promise : Promise 𝓤) → Kept 𝓤 reply promise
+      → (env : Env) → env #g ≡ g-def.routine → (#h : Name) (routine : Routine) → env #h ≡ routine → Triple 𝓤 (𝓡 .run routine) (asked 𝓤 H (𝓖 .A) reply)
+      → (#key : Name) → Closed 𝓤 H (tables 𝓤 H 𝓜 𝓡 env .C) (tables 𝓤 H 𝓜 𝓡 env .Λ) #key (F .code τ #h)
+      → Triple 𝓤 (𝓡 .run (env #key)) (promised 𝓤 H (𝓖 .A) promise)
+
+  -- the promise that the result is the reply, and nothing more
+  abbrev Replies : {M : Type 1} (𝓤 : URA M) → (List Run → F .Values → R .Denot) → Promise 𝓤
+  Replies 𝓤 reply runs a r = fact 𝓤 (r ≡ reply runs a)
+
   abbrev Met : {M : Type 1} (𝓤 : URA M) (H : Heap 𝓤) (𝓜 : Model 𝓤 H) (𝓖 : GhostRules 𝓤 H) (𝓡 : Running 𝓤 H 𝓜) → Type 2
   Met 𝓤 H 𝓜 𝓖 𝓡 =
       (τ : Ty) → OfType τ → (reply : List Run → F .Values → R .Denot) → OneReply reply
       → (env : Env) → env #g ≡ g-def.routine → (#h : Name) (routine : Routine) → env #h ≡ routine → Triple 𝓤 (𝓡 .run routine) (asked 𝓤 H (𝓖 .A) reply)
       → (#key : Name) → Closed 𝓤 H (tables 𝓤 H 𝓜 𝓡 env .C) (tables 𝓤 H 𝓜 𝓡 env .Λ) #key (F .code τ #h)
-      → Triple 𝓤 (𝓡 .run (env #key)) (promised 𝓤 H (𝓖 .A) reply)
+      → Triple 𝓤 (𝓡 .run (env #key)) (promised 𝓤 H (𝓖 .A) (Replies 𝓤 reply))
+
+  replies : {M : Type 1} (𝓤 : URA M) (H : Heap 𝓤) (𝓜 : Model 𝓤 H) (𝓖 : GhostRules 𝓤 H) (𝓡 : Running 𝓤 H 𝓜) → Keeps 𝓤 H 𝓜 𝓖 𝓡 → Met 𝓤 H 𝓜 𝓖 𝓡
+  replies 𝓤 H 𝓜 𝓖 𝓡 keeps τ typed reply many =
+      keeps τ typed reply many (Replies 𝓤 reply) (λ runs a r e. factI 𝓤 (r ≡ reply runs a) (emp 𝓤) e)
 
 -- ---- no further parameter
 abbrev none : Shape
@@ -215,7 +239,7 @@ none-stayed R = (runs-stay, tt)
 module _ (R : RattleType) where
   module _ {M : Type 1} (𝓤 : URA M) (H : Heap 𝓤) (A : Atoms 𝓤) (W : Given 𝓤 H A) (at-mem : Memory → SProp 𝓤) (run : Routine → Fun 𝓤)
       (τ : Ty) (typed : OfType none R τ) (reply : List Run → none .Values → R .Denot) (many : OneReply none R reply)
-      (#h : Name) (𝓣 : Tables 𝓤 H) (known-g : Triple 𝓤 (𝓣 .C #g) (First 𝓤 H A at-mem run))
+      (promise : Promise none R 𝓤) (keeps : Kept none R 𝓤 reply promise) (#h : Name) (𝓣 : Tables 𝓤 H) (known-g : Triple 𝓤 (𝓣 .C #g) (First 𝓤 H A at-mem run))
       (known-h : Triple 𝓤 (𝓣 .C #h) (asked none R 𝓤 H A reply)) where
     -- a run of the code
     abbrev none-run : Fun 𝓤
@@ -223,7 +247,7 @@ module _ (R : RattleType) where
 
     module _ (κ : Lft) (q : Share) (runs : RefT (List Run)) where
       -- what the contract binds, and what h is passed
-      abbrev none-bound : walkOf 𝓤 H A (thin none R) (none-stayed R) (thin-says none R 𝓤 H A reply) .Ghost
+      abbrev none-bound : walkOf 𝓤 H A (thin none R) (none-stayed R) (thin-says none R 𝓤 H A promise) .Ghost
       none-bound = (((κ, tt), (q, tt), tt, (runs, tt), (lent runs ∷ [], tt)), tt)
 
       abbrev none-to-h : RunColumns → Val → asked none R 𝓤 H A reply .Ghost
@@ -239,7 +263,7 @@ module _ (R : RattleType) where
       -- the walk: the parameters are passed, `records::columns_of` is called, then h, and the locals are freed
       none-walk : Is (ShrSlice (named 0) κ mRun.the-row) runs (lent runs ∷ [])
           → ent 𝓤 (onEntry 𝓤 H A (thin none R .signature) (κ, tt) (q, tt) (runs, tt) (lent runs ∷ [], tt))
-          (none-run (lent runs ∷ []) (walkOf 𝓤 H A (thin none R) (none-stayed R) (thin-says none R 𝓤 H A reply) .post none-bound))
+          (none-run (lent runs ∷ []) (walkOf 𝓤 H A (thin none R) (none-stayed R) (thin-says none R 𝓤 H A promise) .post none-bound))
       none-walk gruns =
           qed W ((‵ (flft κ q) ⊛ ‵ ftrue) ∷ ‵ (owns (ShrSlice (named 0) κ mRun.the-row ∷ []) (runs, tt) (lent runs ∷ [], tt)) ∷ []) ∵
           enter ! (𝓣 .C) (𝓣 .Λ) (none .code τ #h) (lent runs ∷ []) _ $
@@ -264,28 +288,32 @@ module _ (R : RattleType) where
           land ! (spot !) (init ! 8 refl (typed r _ is′ .0)) $
           returns ! (look ! 8 refl) $ forget ! 4 refl $ forget ! 6 refl $ forget ! 8 refl $
           move ! (8 ∷ 9 ∷ []) $ free1 ! $ move ! (6 ∷ 7 ∷ []) $ free1 ! $ move ! (4 ∷ 5 ∷ []) $ free1 ! $ free0 ! $
-          suffices ! _ (ends-at 𝓤 H A (thin none R) (none-stayed R) (thin-says none R 𝓤 H A reply) W none-bound u r
+          suffices ! _ (ends-at 𝓤 H A (thin none R) (none-stayed R) (thin-says none R 𝓤 H A promise) W none-bound u r
           (tt, tt) (tt, tt)) $
-          says ! ((e′ ∙ ap (λ (c : RunColumns). reply (runsHeld c) tt) e) ∙ held-reply (λ rs. reply rs tt) (many tt) (runs .now)) $
+          says-all ! (promise (runs .now) tt r)
+          (keeps (runs .now) tt r ((e′ ∙ ap (λ (c : RunColumns). reply (runsHeld c) tt) e) ∙ held-reply (λ rs. reply rs tt) (many tt) (runs .now))) $
           move ! (1 ∷ []) $ frame ! $ move ! (1 ∷ 2 ∷ []) $ fjoin ! $ frame ! $ done !)))))))
 
     -- so the code meets its contract
-    none-walks : Walks 𝓤 H A (thin none R) (none-stayed R) none-run (thin-says none R 𝓤 H A reply)
-    none-walks = walked 𝓤 H A (thin none R) (none-stayed R) (thin-says none R 𝓤 H A reply) none-run
+    none-walks : Walks 𝓤 H A (thin none R) (none-stayed R) none-run (thin-says none R 𝓤 H A promise)
+    none-walks = walked 𝓤 H A (thin none R) (none-stayed R) (thin-says none R 𝓤 H A promise) none-run
         (λ κs. (slice-vals, tt))
         (λ κs. (shr-slice-tells (named 0) (κs .0) mRun.the-row, tt))
         (λ κs qs bounds a _ are. via 𝓤 _ (fst∗ 𝓤 _ (emp 𝓤)) (none-walk (κs .0) (qs .0) (a .0) (are .0)))
 
-    none-meets : Triple 𝓤 none-run (promised none R 𝓤 H A reply)
+    none-meets : Triple 𝓤 none-run (promised none R 𝓤 H A promise)
     none-meets = walk-meets 𝓤 H A (thin none R) (none-stayed R) W
         (goes-none-slice 𝓤 H A W 1 (0 ∷ []) tt (plain (λ _. mRun.the-row)) yes, tt)
-        (thin-says none R 𝓤 H A reply) none-run (WpFn-mono 𝓤 H (W .laws) 𝓣 (none .code τ #h)) none-walks
+        (thin-says none R 𝓤 H A promise) none-run (WpFn-mono 𝓤 H (W .laws) 𝓣 (none .code τ #h)) none-walks
 
   -- and so does the function
+  pub none-keeps : {M : Type 1} (𝓤 : URA M) (H : Heap 𝓤) (𝓜 : Model 𝓤 H) (𝓖 : GhostRules 𝓤 H) (𝓡 : Running 𝓤 H 𝓜) → Keeps none R 𝓤 H 𝓜 𝓖 𝓡
+  none-keeps 𝓤 H 𝓜 𝓖 𝓡 τ typed reply many promise keeps env calls-g #h =
+      placed 𝓤 H 𝓜 𝓖 𝓡 #h (none .code τ #h) (asked none R 𝓤 H (𝓖 .A) reply) (promised none R 𝓤 H (𝓖 .A) promise)
+      (none-meets 𝓤 H (𝓖 .A) (givenOf 𝓤 H 𝓜 𝓖) (𝓜 .mem) (𝓡 .run) τ typed reply many promise keeps #h) env calls-g
+
   pub none-met : {M : Type 1} (𝓤 : URA M) (H : Heap 𝓤) (𝓜 : Model 𝓤 H) (𝓖 : GhostRules 𝓤 H) (𝓡 : Running 𝓤 H 𝓜) → Met none R 𝓤 H 𝓜 𝓖 𝓡
-  none-met 𝓤 H 𝓜 𝓖 𝓡 τ typed reply many env calls-g #h =
-      placed 𝓤 H 𝓜 𝓖 𝓡 #h (none .code τ #h) (asked none R 𝓤 H (𝓖 .A) reply) (promised none R 𝓤 H (𝓖 .A) reply)
-      (none-meets 𝓤 H (𝓖 .A) (givenOf 𝓤 H 𝓜 𝓖) (𝓜 .mem) (𝓡 .run) τ typed reply many #h) env calls-g
+  none-met 𝓤 H 𝓜 𝓖 𝓡 = replies none R 𝓤 H 𝓜 𝓖 𝓡 (none-keeps 𝓤 H 𝓜 𝓖 𝓡)
 
 -- ---- one further parameter
 abbrev one : Shape
@@ -309,7 +337,7 @@ one-stayed R = (runs-stay, (word-stays, tt))
 module _ (R : RattleType) where
   module _ {M : Type 1} (𝓤 : URA M) (H : Heap 𝓤) (A : Atoms 𝓤) (W : Given 𝓤 H A) (at-mem : Memory → SProp 𝓤) (run : Routine → Fun 𝓤)
       (τ : Ty) (typed : OfType one R τ) (reply : List Run → one .Values → R .Denot) (many : OneReply one R reply)
-      (#h : Name) (𝓣 : Tables 𝓤 H) (known-g : Triple 𝓤 (𝓣 .C #g) (First 𝓤 H A at-mem run))
+      (promise : Promise one R 𝓤) (keeps : Kept one R 𝓤 reply promise) (#h : Name) (𝓣 : Tables 𝓤 H) (known-g : Triple 𝓤 (𝓣 .C #g) (First 𝓤 H A at-mem run))
       (known-h : Triple 𝓤 (𝓣 .C #h) (asked one R 𝓤 H A reply)) where
     -- a run of the code
     abbrev one-run : Fun 𝓤
@@ -317,7 +345,7 @@ module _ (R : RattleType) where
 
     module _ (κ : Lft) (q : Share) (runs : RefT (List Run)) (tick : ℕ) where
       -- what the contract binds, and what h is passed
-      abbrev one-bound : walkOf 𝓤 H A (thin one R) (one-stayed R) (thin-says one R 𝓤 H A reply) .Ghost
+      abbrev one-bound : walkOf 𝓤 H A (thin one R) (one-stayed R) (thin-says one R 𝓤 H A promise) .Ghost
       one-bound = (((κ, tt), (q, tt), tt, (runs, (tick, tt)), (lent runs ∷ [], ((vint w32 tick) ∷ [], tt))), tt)
 
       abbrev one-to-h : RunColumns → Val → asked one R 𝓤 H A reply .Ghost
@@ -333,7 +361,7 @@ module _ (R : RattleType) where
       -- the walk: the parameters are passed, `records::columns_of` is called, then h, and the locals are freed
       one-walk : Is (ShrSlice (named 0) κ mRun.the-row) runs (lent runs ∷ []) → Is u32 tick ((vint w32 tick) ∷ [])
           → ent 𝓤 (onEntry 𝓤 H A (thin one R .signature) (κ, tt) (q, tt) (runs, (tick, tt)) (lent runs ∷ [], ((vint w32 tick) ∷ [], tt)))
-          (one-run (lent runs ∷ (vint w32 tick) ∷ []) (walkOf 𝓤 H A (thin one R) (one-stayed R) (thin-says one R 𝓤 H A reply) .post one-bound))
+          (one-run (lent runs ∷ (vint w32 tick) ∷ []) (walkOf 𝓤 H A (thin one R) (one-stayed R) (thin-says one R 𝓤 H A promise) .post one-bound))
       one-walk gruns gtick =
           qed W ((‵ (flft κ q) ⊛ ‵ ftrue) ∷ ‵ (owns (ShrSlice (named 0) κ mRun.the-row ∷ u32 ∷ []) (runs, (tick, tt)) (lent runs ∷ [], ((vint w32 tick) ∷ [], tt))) ∷ []) ∵
           enter ! (𝓣 .C) (𝓣 .Λ) (one .code τ #h) (lent runs ∷ (vint w32 tick) ∷ []) _ $
@@ -359,28 +387,32 @@ module _ (R : RattleType) where
           land ! (spot !) (init ! 10 refl (typed r _ is′ .0)) $
           returns ! (look ! 10 refl) $ forget ! 4 refl $ forget ! 6 refl $ forget ! 8 refl $ forget ! 10 refl $
           move ! (10 ∷ 11 ∷ []) $ free1 ! $ move ! (8 ∷ 9 ∷ []) $ free1 ! $ move ! (6 ∷ 7 ∷ []) $ free1 ! $ move ! (4 ∷ 5 ∷ []) $ free1 ! $ free0 ! $
-          suffices ! _ (ends-at 𝓤 H A (thin one R) (one-stayed R) (thin-says one R 𝓤 H A reply) W one-bound u r
+          suffices ! _ (ends-at 𝓤 H A (thin one R) (one-stayed R) (thin-says one R 𝓤 H A promise) W one-bound u r
           (tt, (tt, tt)) (tt, (tt, tt))) $
-          says ! ((e′ ∙ ap (λ (c : RunColumns). reply (runsHeld c) tick) e) ∙ held-reply (λ rs. reply rs tick) (many tick) (runs .now)) $
+          says-all ! (promise (runs .now) tick r)
+          (keeps (runs .now) tick r ((e′ ∙ ap (λ (c : RunColumns). reply (runsHeld c) tick) e) ∙ held-reply (λ rs. reply rs tick) (many tick) (runs .now))) $
           move ! (1 ∷ []) $ frame ! $ move ! (1 ∷ 2 ∷ []) $ fjoin ! $ frame ! $ done !))))))))
 
     -- so the code meets its contract
-    one-walks : Walks 𝓤 H A (thin one R) (one-stayed R) one-run (thin-says one R 𝓤 H A reply)
-    one-walks = walked 𝓤 H A (thin one R) (one-stayed R) (thin-says one R 𝓤 H A reply) one-run
+    one-walks : Walks 𝓤 H A (thin one R) (one-stayed R) one-run (thin-says one R 𝓤 H A promise)
+    one-walks = walked 𝓤 H A (thin one R) (one-stayed R) (thin-says one R 𝓤 H A promise) one-run
         (λ κs. (slice-vals, (uint-vals w32, tt)))
         (λ κs. (shr-slice-tells (named 0) (κs .0) mRun.the-row, (uint-tells w32, tt)))
         (λ κs qs bounds a _ are. via 𝓤 _ (fst∗ 𝓤 _ (emp 𝓤)) (one-walk (κs .0) (qs .0) (a .0) (a .1 .0) (are .0) (are .1 .0)))
 
-    one-meets : Triple 𝓤 one-run (promised one R 𝓤 H A reply)
+    one-meets : Triple 𝓤 one-run (promised one R 𝓤 H A promise)
     one-meets = walk-meets 𝓤 H A (thin one R) (one-stayed R) W
         (goes-none-slice 𝓤 H A W 1 (0 ∷ []) tt (plain (λ _. mRun.the-row)) yes, (goes-none 𝓤 H A W 1 (λ _. u32) yes (λ κs x f. refl), tt))
-        (thin-says one R 𝓤 H A reply) one-run (WpFn-mono 𝓤 H (W .laws) 𝓣 (one .code τ #h)) one-walks
+        (thin-says one R 𝓤 H A promise) one-run (WpFn-mono 𝓤 H (W .laws) 𝓣 (one .code τ #h)) one-walks
 
   -- and so does the function
+  pub one-keeps : {M : Type 1} (𝓤 : URA M) (H : Heap 𝓤) (𝓜 : Model 𝓤 H) (𝓖 : GhostRules 𝓤 H) (𝓡 : Running 𝓤 H 𝓜) → Keeps one R 𝓤 H 𝓜 𝓖 𝓡
+  one-keeps 𝓤 H 𝓜 𝓖 𝓡 τ typed reply many promise keeps env calls-g #h =
+      placed 𝓤 H 𝓜 𝓖 𝓡 #h (one .code τ #h) (asked one R 𝓤 H (𝓖 .A) reply) (promised one R 𝓤 H (𝓖 .A) promise)
+      (one-meets 𝓤 H (𝓖 .A) (givenOf 𝓤 H 𝓜 𝓖) (𝓜 .mem) (𝓡 .run) τ typed reply many promise keeps #h) env calls-g
+
   pub one-met : {M : Type 1} (𝓤 : URA M) (H : Heap 𝓤) (𝓜 : Model 𝓤 H) (𝓖 : GhostRules 𝓤 H) (𝓡 : Running 𝓤 H 𝓜) → Met one R 𝓤 H 𝓜 𝓖 𝓡
-  one-met 𝓤 H 𝓜 𝓖 𝓡 τ typed reply many env calls-g #h =
-      placed 𝓤 H 𝓜 𝓖 𝓡 #h (one .code τ #h) (asked one R 𝓤 H (𝓖 .A) reply) (promised one R 𝓤 H (𝓖 .A) reply)
-      (one-meets 𝓤 H (𝓖 .A) (givenOf 𝓤 H 𝓜 𝓖) (𝓜 .mem) (𝓡 .run) τ typed reply many #h) env calls-g
+  one-met 𝓤 H 𝓜 𝓖 𝓡 = replies one R 𝓤 H 𝓜 𝓖 𝓡 (one-keeps 𝓤 H 𝓜 𝓖 𝓡)
 
 -- ---- two further parameters
 abbrev two : Shape
@@ -404,7 +436,7 @@ two-stayed R = (runs-stay, (word-stays, (word-stays, tt)))
 module _ (R : RattleType) where
   module _ {M : Type 1} (𝓤 : URA M) (H : Heap 𝓤) (A : Atoms 𝓤) (W : Given 𝓤 H A) (at-mem : Memory → SProp 𝓤) (run : Routine → Fun 𝓤)
       (τ : Ty) (typed : OfType two R τ) (reply : List Run → two .Values → R .Denot) (many : OneReply two R reply)
-      (#h : Name) (𝓣 : Tables 𝓤 H) (known-g : Triple 𝓤 (𝓣 .C #g) (First 𝓤 H A at-mem run))
+      (promise : Promise two R 𝓤) (keeps : Kept two R 𝓤 reply promise) (#h : Name) (𝓣 : Tables 𝓤 H) (known-g : Triple 𝓤 (𝓣 .C #g) (First 𝓤 H A at-mem run))
       (known-h : Triple 𝓤 (𝓣 .C #h) (asked two R 𝓤 H A reply)) where
     -- a run of the code
     abbrev two-run : Fun 𝓤
@@ -412,7 +444,7 @@ module _ (R : RattleType) where
 
     module _ (κ : Lft) (q : Share) (runs : RefT (List Run)) (a b : ℕ) where
       -- what the contract binds, and what h is passed
-      abbrev two-bound : walkOf 𝓤 H A (thin two R) (two-stayed R) (thin-says two R 𝓤 H A reply) .Ghost
+      abbrev two-bound : walkOf 𝓤 H A (thin two R) (two-stayed R) (thin-says two R 𝓤 H A promise) .Ghost
       two-bound = (((κ, tt), (q, tt), tt, (runs, (a, (b, tt))), (lent runs ∷ [], ((vint w32 a) ∷ [], ((vint w32 b) ∷ [], tt)))), tt)
 
       abbrev two-to-h : RunColumns → Val → asked two R 𝓤 H A reply .Ghost
@@ -428,7 +460,7 @@ module _ (R : RattleType) where
       -- the walk: the parameters are passed, `records::columns_of` is called, then h, and the locals are freed
       two-walk : Is (ShrSlice (named 0) κ mRun.the-row) runs (lent runs ∷ []) → Is u32 a ((vint w32 a) ∷ []) → Is u32 b ((vint w32 b) ∷ [])
           → ent 𝓤 (onEntry 𝓤 H A (thin two R .signature) (κ, tt) (q, tt) (runs, (a, (b, tt))) (lent runs ∷ [], ((vint w32 a) ∷ [], ((vint w32 b) ∷ [], tt))))
-          (two-run (lent runs ∷ (vint w32 a) ∷ (vint w32 b) ∷ []) (walkOf 𝓤 H A (thin two R) (two-stayed R) (thin-says two R 𝓤 H A reply) .post two-bound))
+          (two-run (lent runs ∷ (vint w32 a) ∷ (vint w32 b) ∷ []) (walkOf 𝓤 H A (thin two R) (two-stayed R) (thin-says two R 𝓤 H A promise) .post two-bound))
       two-walk gruns ga gb =
           qed W ((‵ (flft κ q) ⊛ ‵ ftrue) ∷ ‵ (owns (ShrSlice (named 0) κ mRun.the-row ∷ u32 ∷ u32 ∷ []) (runs, (a, (b, tt))) (lent runs ∷ [], ((vint w32 a) ∷ [], ((vint w32 b) ∷ [], tt)))) ∷ []) ∵
           enter ! (𝓣 .C) (𝓣 .Λ) (two .code τ #h) (lent runs ∷ (vint w32 a) ∷ (vint w32 b) ∷ []) _ $
@@ -455,25 +487,29 @@ module _ (R : RattleType) where
           land ! (spot !) (init ! 12 refl (typed r _ is′ .0)) $
           returns ! (look ! 12 refl) $ forget ! 4 refl $ forget ! 6 refl $ forget ! 8 refl $ forget ! 10 refl $ forget ! 12 refl $
           move ! (12 ∷ 13 ∷ []) $ free1 ! $ move ! (10 ∷ 11 ∷ []) $ free1 ! $ move ! (8 ∷ 9 ∷ []) $ free1 ! $ move ! (6 ∷ 7 ∷ []) $ free1 ! $ move ! (4 ∷ 5 ∷ []) $ free1 ! $ free0 ! $
-          suffices ! _ (ends-at 𝓤 H A (thin two R) (two-stayed R) (thin-says two R 𝓤 H A reply) W two-bound u r
+          suffices ! _ (ends-at 𝓤 H A (thin two R) (two-stayed R) (thin-says two R 𝓤 H A promise) W two-bound u r
           (tt, (tt, (tt, tt))) (tt, (tt, (tt, tt)))) $
-          says ! ((e′ ∙ ap (λ (c : RunColumns). reply (runsHeld c) (a, b)) e) ∙ held-reply (λ rs. reply rs (a, b)) (many (a, b)) (runs .now)) $
+          says-all ! (promise (runs .now) (a, b) r)
+          (keeps (runs .now) (a, b) r ((e′ ∙ ap (λ (c : RunColumns). reply (runsHeld c) (a, b)) e) ∙ held-reply (λ rs. reply rs (a, b)) (many (a, b)) (runs .now))) $
           move ! (1 ∷ []) $ frame ! $ move ! (1 ∷ 2 ∷ []) $ fjoin ! $ frame ! $ done !)))))))))
 
     -- so the code meets its contract
-    two-walks : Walks 𝓤 H A (thin two R) (two-stayed R) two-run (thin-says two R 𝓤 H A reply)
-    two-walks = walked 𝓤 H A (thin two R) (two-stayed R) (thin-says two R 𝓤 H A reply) two-run
+    two-walks : Walks 𝓤 H A (thin two R) (two-stayed R) two-run (thin-says two R 𝓤 H A promise)
+    two-walks = walked 𝓤 H A (thin two R) (two-stayed R) (thin-says two R 𝓤 H A promise) two-run
         (λ κs. (slice-vals, (uint-vals w32, (uint-vals w32, tt))))
         (λ κs. (shr-slice-tells (named 0) (κs .0) mRun.the-row, (uint-tells w32, (uint-tells w32, tt))))
         (λ κs qs bounds a _ are. via 𝓤 _ (fst∗ 𝓤 _ (emp 𝓤)) (two-walk (κs .0) (qs .0) (a .0) (a .1 .0) (a .1 .1 .0) (are .0) (are .1 .0) (are .1 .1 .0)))
 
-    two-meets : Triple 𝓤 two-run (promised two R 𝓤 H A reply)
+    two-meets : Triple 𝓤 two-run (promised two R 𝓤 H A promise)
     two-meets = walk-meets 𝓤 H A (thin two R) (two-stayed R) W
         (goes-none-slice 𝓤 H A W 1 (0 ∷ []) tt (plain (λ _. mRun.the-row)) yes, (goes-none 𝓤 H A W 1 (λ _. u32) yes (λ κs x f. refl), (goes-none 𝓤 H A W 1 (λ _. u32) yes (λ κs x f. refl), tt)))
-        (thin-says two R 𝓤 H A reply) two-run (WpFn-mono 𝓤 H (W .laws) 𝓣 (two .code τ #h)) two-walks
+        (thin-says two R 𝓤 H A promise) two-run (WpFn-mono 𝓤 H (W .laws) 𝓣 (two .code τ #h)) two-walks
 
   -- and so does the function
+  pub two-keeps : {M : Type 1} (𝓤 : URA M) (H : Heap 𝓤) (𝓜 : Model 𝓤 H) (𝓖 : GhostRules 𝓤 H) (𝓡 : Running 𝓤 H 𝓜) → Keeps two R 𝓤 H 𝓜 𝓖 𝓡
+  two-keeps 𝓤 H 𝓜 𝓖 𝓡 τ typed reply many promise keeps env calls-g #h =
+      placed 𝓤 H 𝓜 𝓖 𝓡 #h (two .code τ #h) (asked two R 𝓤 H (𝓖 .A) reply) (promised two R 𝓤 H (𝓖 .A) promise)
+      (two-meets 𝓤 H (𝓖 .A) (givenOf 𝓤 H 𝓜 𝓖) (𝓜 .mem) (𝓡 .run) τ typed reply many promise keeps #h) env calls-g
+
   pub two-met : {M : Type 1} (𝓤 : URA M) (H : Heap 𝓤) (𝓜 : Model 𝓤 H) (𝓖 : GhostRules 𝓤 H) (𝓡 : Running 𝓤 H 𝓜) → Met two R 𝓤 H 𝓜 𝓖 𝓡
-  two-met 𝓤 H 𝓜 𝓖 𝓡 τ typed reply many env calls-g #h =
-      placed 𝓤 H 𝓜 𝓖 𝓡 #h (two .code τ #h) (asked two R 𝓤 H (𝓖 .A) reply) (promised two R 𝓤 H (𝓖 .A) reply)
-      (two-meets 𝓤 H (𝓖 .A) (givenOf 𝓤 H 𝓜 𝓖) (𝓜 .mem) (𝓡 .run) τ typed reply many #h) env calls-g
+  two-met 𝓤 H 𝓜 𝓖 𝓡 = replies two R 𝓤 H 𝓜 𝓖 𝓡 (two-keeps 𝓤 H 𝓜 𝓖 𝓡)

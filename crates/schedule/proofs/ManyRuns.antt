@@ -7,9 +7,10 @@ use mathlib.Core.List.{List, []}
 use Rattle.schedule.specs.declared.Run.{Run}
 use Rattle.schedule.specs.Runs.{tooMany}
 use Rattle.schedule.specs.Judging.{judgeBy, judgeTable, judged}
+use Rattle.schedule.specs.RunCheck.{runsAnswer}
 use Rattle.schedule.specs.BusyCount.{busyReply}
-use Rattle.schedule.specs.Queries.{runsAnswer, runAtTick, runFromTick, touching, stretchOf}
-use Rattle.schedule.proofs.SearchLaws.{many-refused}
+use Rattle.schedule.specs.Queries.{runAtTick, runFromTick, touching, stretchOf}
+use Rattle.schedule.proofs.CheckLaws.{many-refused}
 
 -- a reply that is the same for all lists of too many runs
 abbrev pub OneForMany : {A : Type 0} → (List Run → A) → Type 0
@@ -20,14 +21,13 @@ pub judge-many : (launch : ℕ) (file marks : List ℕ) → OneForMany (judged l
 unfolding judged judgeTable judgeBy
 judge-many launch file marks runs other e f = rw (e, f)
 
--- of the busy count it is 13
-pub busy-many : (a b : ℕ) → OneForMany (λ runs. busyReply runs a b)
-unfolding busyReply
-busy-many a b runs other e f = rw (e, f)
-
--- of the check and the queries it is 13, before 15
+-- of the check, the busy count and the queries it is 13, before 15
 pub check-many : OneForMany runsAnswer
 check-many runs other e f = rw (many-refused runs e, many-refused other f)
+
+pub busy-many : (a b : ℕ) → OneForMany (λ runs. busyReply runs a b)
+unfolding busyReply
+busy-many a b runs other e f = rw (many-refused runs e, many-refused other f)
 
 pub at-many : (tick : ℕ) → OneForMany (λ runs. runAtTick runs tick)
 unfolding runAtTick

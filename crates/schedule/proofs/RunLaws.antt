@@ -1,16 +1,16 @@
 -- Laws of runs: which ticks a run holds, who owns a tick, and how many ticks a task has.
 use Prim.Native.Nat.{ℕ, zero, suc, _+_, _-_, _≤_, _<_, min}
 use mathlib.Core.Path.{_≡_, refl}
-use mathlib.Core.Logic.{inl, inr}
+use mathlib.Core.Logic.{_↔_, inl, inr}
 use mathlib.Core.List.{List, [], _∷_}
-use mathlib.Core.Bool.{true, false}
+use mathlib.Core.Bool.{Bool, true, false}
 use mathlib.Core.Option.{Option, none, some}
 use native.Mathlib.Omega.{arith}
 use lib.Dec.{leb, ltb, eqb}
 use borrow.Author.Tests.{leb-true, leb-false, ltb-true, ltb-false, le-leb, lt-leb, lt-ltb, le-ltb, eqb-true}
 use Rattle.base.specs.Tests.{pick, and}
-use Rattle.base.proofs.TestLaws.{cases, and-left, and-right}
-use Rattle.schedule.specs.Ticks.{isTask, one, countBelow, ticksOf}
+use Rattle.base.proofs.TestLaws.{cases, both-absurd, and-left, and-right}
+use Rattle.schedule.specs.Ticks.{isTask, isOwned, one, countBelow, ticksOf}
 use Rattle.base.specs.Members.{All, Any}
 use Rattle.schedule.specs.declared.Run.{Run}
 use Rattle.schedule.specs.Runs.{runHolds, ownerOf}
@@ -115,49 +115,64 @@ owner-has-run (run ∷ runs) tick i e =
     (λ h. let q : some (run .task) ≡ some i = rw h at e in inl (h, (cc)))
     (λ h. inr (owner-has-run runs tick i (rw h at e)))
 
--- in order, the ticks of task i are those of the first run, where it is of task i, and those of the rest
-own-split : (from : ℕ) (run : Run) (runs : List Run) → noneEmpty (run ∷ runs) ≡ true → followFrom from (run ∷ runs) ≡ true → (i tick : ℕ)
-    → one (isTask i (ownerOf (run ∷ runs) tick)) ≡ one (and (eqb (run .task) i) (runHolds run tick)) + one (isTask i (ownerOf runs tick))
+-- a tick is owned exactly where some run holds it
+pub owned-exactly : (runs : List Run) (tick : ℕ) → (isOwned (ownerOf runs tick) ≡ true) ↔ Any (λ run. runHolds run tick ≡ true) runs
 unfolding ownerOf
-own-split from run runs ne fo i tick =
-    cases (runHolds run tick)
-    (λ h.
-    let l = run-holds run tick h in
-    let f = free-before (run .end) runs (rest-nonempty run runs ne) (rest-follow from run runs fo) tick (l .1) in
-    cases (eqb (run .task) i) (λ e. rw (h, f, e)) (λ e. rw (h, f, e)))
-    (λ h. cases (eqb (run .task) i) (λ e. rw (h, e) (omega arith)) (λ e. rw (h, e) (omega arith)))
+owned-exactly runs tick = (owned-held runs, held-owned runs)
+  where
+    owned-held : (runs : List Run) → isOwned (ownerOf runs tick) ≡ true → Any (λ run. runHolds run tick ≡ true) runs
+    owned-held [] e = both-absurd false e refl
+    owned-held (run ∷ runs) e = cases (runHolds run tick) (λ h. inl h) (λ h. inr (owned-held runs (rw h at e)))
 
--- how many ticks below n a run holds as one of task i
-part-count : (run : Run) (i n : ℕ)
-    → countBelow (λ tick. and (eqb (run .task) i) (runHolds run tick)) n ≡ pick (eqb (run .task) i) (min (run .end) n - run .start) 0
-part-count run i n =
-    cases (eqb (run .task) i)
-    (λ e. rw e (run-count run n))
-    (λ e. rw e (count-none (λ tick. false) n (λ tick l. refl)))
+    held-owned : (runs : List Run) → Any (λ run. runHolds run tick ≡ true) runs → isOwned (ownerOf runs tick) ≡ true
+    held-owned (run ∷ runs) (inl h) = rw h
+    held-owned (run ∷ runs) (inr m) = cases (runHolds run tick) (λ h. rw h) (λ h. rw h (held-owned runs m))
 
--- in order, the ticks of task i below n are those of the first run, where it is of task i, and those of the rest
-own-count : (from : ℕ) (run : Run) (runs : List Run) → noneEmpty (run ∷ runs) ≡ true → followFrom from (run ∷ runs) ≡ true → (i n : ℕ)
-    → countBelow (λ tick. isTask i (ownerOf (run ∷ runs) tick)) n
-    ≡ pick (eqb (run .task) i) (min (run .end) n - run .start) 0 + countBelow (λ tick. isTask i (ownerOf runs tick)) n
-own-count from run runs ne fo i n =
-    rw (← part-count run i n)
-    (count-split (λ tick. isTask i (ownerOf (run ∷ runs) tick)) (λ tick. and (eqb (run .task) i) (runHolds run tick)) (λ tick. isTask i (ownerOf runs tick))
-    (own-split from run runs ne fo i) n)
+-- Ticks whose owner passes a test; a tick without an owner fails it.
+module _ (test : Option ℕ → Bool) (fails : test none ≡ false) where
+  -- in order, they are those of the first run, where its task passes, and those of the rest
+  own-split : (from : ℕ) (run : Run) (runs : List Run) → noneEmpty (run ∷ runs) ≡ true → followFrom from (run ∷ runs) ≡ true → (tick : ℕ)
+      → one (test (ownerOf (run ∷ runs) tick)) ≡ one (and (test (some (run .task))) (runHolds run tick)) + one (test (ownerOf runs tick))
+  unfolding ownerOf
+  own-split from run runs ne fo tick =
+      cases (runHolds run tick)
+      (λ h.
+      let l = run-holds run tick h in
+      let f = free-before (run .end) runs (rest-nonempty run runs ne) (rest-follow from run runs fo) tick (l .1) in
+      cases (test (some (run .task))) (λ e. rw (h, f, fails, e)) (λ e. rw (h, f, fails, e)))
+      (λ h. cases (test (some (run .task))) (λ e. rw (h, e) (omega arith)) (λ e. rw (h, e) (omega arith)))
 
--- no run, no ticks
-free-count : (i n : ℕ) → countBelow (λ tick. isTask i (ownerOf [] tick)) n ≡ 0
-unfolding ownerOf
-free-count i n = count-none (λ tick. isTask i (ownerOf [] tick)) n (λ tick l. refl)
+  -- how many of those below n a run holds
+  part-count : (run : Run) (n : ℕ)
+      → countBelow (λ tick. and (test (some (run .task))) (runHolds run tick)) n ≡ pick (test (some (run .task))) (min (run .end) n - run .start) 0
+  part-count run n =
+      cases (test (some (run .task)))
+      (λ e. rw e (run-count run n))
+      (λ e. rw e (count-none (λ tick. false) n (λ tick l. refl)))
+
+  -- in order, those below n are those of the first run, where its task passes, and those of the rest
+  pub own-count : (from : ℕ) (run : Run) (runs : List Run) → noneEmpty (run ∷ runs) ≡ true → followFrom from (run ∷ runs) ≡ true → (n : ℕ)
+      → countBelow (λ tick. test (ownerOf (run ∷ runs) tick)) n
+      ≡ pick (test (some (run .task))) (min (run .end) n - run .start) 0 + countBelow (λ tick. test (ownerOf runs tick)) n
+  own-count from run runs ne fo n =
+      rw (← part-count run n)
+      (count-split (λ tick. test (ownerOf (run ∷ runs) tick)) (λ tick. and (test (some (run .task))) (runHolds run tick)) (λ tick. test (ownerOf runs tick))
+      (own-split from run runs ne fo) n)
+
+  -- no run, no ticks
+  pub free-count : (n : ℕ) → countBelow (λ tick. test (ownerOf [] tick)) n ≡ 0
+  unfolding ownerOf
+  free-count n = count-none (λ tick. test (ownerOf [] tick)) n (λ tick l. fails)
 
 -- in order, where every run of task i is from a to b, it has no tick below a, and its total below b
 ends-count : (from : ℕ) (runs : List Run) → noneEmpty runs ≡ true → followFrom from runs ≡ true
     → (i a b : ℕ) → All (λ run. run .task ≡ i → (a ≤ run .start) × (run .end ≤ b)) runs
     → (countBelow (λ tick. isTask i (ownerOf runs tick)) a ≡ 0) × (countBelow (λ tick. isTask i (ownerOf runs tick)) b ≡ totalOf runs i)
 unfolding totalOf
-ends-count from [] ne fo i a b h = (free-count i a, free-count i b)
+ends-count from [] ne fo i a b h = (free-count (isTask i) refl a, free-count (isTask i) refl b)
 ends-count from (run ∷ runs) ne fo i a b h =
-    let p = own-count from run runs ne fo i a in
-    let q = own-count from run runs ne fo i b in
+    let p = own-count (isTask i) refl from run runs ne fo a in
+    let q = own-count (isTask i) refl from run runs ne fo b in
     let r = ends-count (run .end) runs (rest-nonempty run runs ne) (rest-follow from run runs fo) i a b (h .1) in
     cases (eqb (run .task) i)
     (λ e. let w = h .0 (eqb-true (run .task) i e) in rw e (omega (arith, rw e at p, rw e at q)))

@@ -11,7 +11,7 @@ use native.Mathlib.Decide.{le-ind, decLe}
 use lib.Dec.{eqb}
 use borrow.Author.Tests.{eqb-true, ne-eqb}
 use Rattle.base.proofs.TestLaws.{cases}
-use Rattle.schedule.specs.Ticks.{Owner, isTask, one, countBelow, ticksOf}
+use Rattle.schedule.specs.Ticks.{Owner, isTask, one, countBelow, countIn, ticksOf}
 use Rattle.base.specs.Members.{All, Distinct}
 
 -- the ticks that some tasks have between a and b, summed
@@ -23,6 +23,20 @@ shares owner (i ∷ is) a b = ticksOf owner i a b + shares owner is a b
 pub count-grows : (test : ℕ → Bool) (a b : ℕ) → a ≤ b → countBelow test a ≤ countBelow test b
 unfolding countBelow
 count-grows test a b h = le-ind (λ n. countBelow test a ≤ countBelow test n) (omega arith) (λ m k g. omega arith) b h
+
+-- a test counts 1 at most
+pub one-most : (test : Bool) → one test ≤ 1
+one-most true = omega arith
+one-most false = omega arith
+
+-- so no more ticks pass than the interval has, and of an empty one none
+pub count-fits : (test : ℕ → Bool) (a b : ℕ) → countIn test a b ≤ b - a
+unfolding countBelow
+count-fits test a b =
+    elim (decLe a b) [
+      | yes h ↦ le-ind (λ n. countIn test a n ≤ n - a) (omega arith) (λ m k g. omega (arith, one-most (test m), k, g)) b h
+      | no h ↦ omega (arith, count-grows test b a (omega arith))
+    ]
 
 -- tests that agree below n have equal counts
 pub count-same : (p q : ℕ → Bool) (n : ℕ) → ((t : ℕ) → t < n → p t ≡ q t) → countBelow p n ≡ countBelow q n

@@ -13,6 +13,12 @@ abbrev pub isTask : ℕ → Option ℕ → Bool
 isTask i none = false
 isTask i (some k) = eqb k i
 
+-- there is an owner
+abbrev pub isOwned : Option ℕ → Bool
+isOwned none = false
+isOwned (some k) = true
+
+-- 1 for a test that is passed, and 0 for one that is not
 abbrev pub one : Bool → ℕ
 one true = 1
 one false = 0
@@ -34,3 +40,7 @@ countIn test a b = countBelow test b - countBelow test a
 -- how many of the ticks from a to b task i has
 abbrev pub ticksOf : Owner → ℕ → ℕ → ℕ → ℕ
 ticksOf owner i a b = countIn (λ tick. isTask i (owner tick)) a b
+
+-- how many of the ticks from a to b have an owner
+abbrev pub ticksOwned : Owner → ℕ → ℕ → ℕ
+ticksOwned owner a b = countIn (λ tick. isOwned (owner tick)) a b

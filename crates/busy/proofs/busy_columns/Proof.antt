@@ -1,21 +1,22 @@
--- `busy::busy_columns` meets its contract. The loop's invariant: the ticks counted and the sum over the runs that are left are together the sum over
--- all runs. No sum wraps: there are at most 4,096 runs, and each shares at most 2 ^ 32 ticks.
+-- `busy::busy_columns` meets its contract: what the check refuses, or the sum. The loop's invariant: the ticks counted and the sum over the runs that are
+-- left are together the sum over all runs. No sum wraps: there are at most 4,096 runs, and each shares at most 2 ^ 32 ticks.
 use Prim.Native.Nat.{ℕ, _+_, _*_, _^_, _-_, _≤_, _<_}
 use mathlib.Core.Path.{_≡_, _∙_, sym}
-use mathlib.Core.Bool.{Bool, true, false}
+use mathlib.Core.Bool.{false}
 use mathlib.Core.List.{List}
 use native.Mathlib.Omega.{arith}
 use borrow.Author.Needs.{needs}
-use borrow.Author.Tests.{ltb-false}
-use lib.Dec.{ltb}
 use lib.ListN.{length, getD}
 use Rattle.base.specs.Limits.{maxRuns}
 use Rattle.base.specs.Places.{placesFrom}
 use Rattle.base.proofs.PlaceLaws.{left-start, left-step, left-end}
-use Rattle.base.proofs.TestLaws.{pick-true, pick-false}
+use Rattle.schedule.specs.declared.Run.{Run}
+use Rattle.schedule.specs.declared.RunsAnswer.{RunsAnswer}
+use Rattle.schedule.specs.declared.RunsAnswer.the-variants as checked
 use Rattle.schedule.specs.Runs.{runAt, runsOf}
-use Rattle.schedule.proofs.ColumnLaws.{columns-many}
+use Rattle.schedule.specs.RunCheck.{runsAnswer, runsNumber, runsPlace, runsAccepted}
 use Rattle.schedule.specs.BusyCount.{shared, busySum, busyReply}
+use Rattle.checking.proofs.OrderLaws.{told-refused, columns-few}
 use Rattle.busy.proofs.busy_columns.Statement.{statement}
 use Rattle.busy.proofs.busy_columns.Tie as tie
 
@@ -49,19 +50,16 @@ module _ (starts ends tasks : List ℕ) (a b : ℕ) where
       let none = rw (left-end (runAt starts ends tasks) (length starts) i l) at h in
       omega arith
 
-module _ (starts ends tasks : List ℕ) (many : Bool) (e : many ≡ ltb maxRuns (length starts)) where
-  -- the two replies
-  reply-refused : (a b : ℕ) → many ≡ true → record { number = 13; place = 0; ticks = 0 } ≡ busyReply (runsOf starts ends tasks) a b
+module _ (runs : List Run) (a b : ℕ) where
+  -- the two replies: what the check refuses, and the sum
+  reply-refused : (answer : RunsAnswer) (number place : ℕ) → answer ≡ runsAnswer runs → runsAccepted answer ≡ false
+      → number ≡ runsNumber answer → place ≡ runsPlace answer → record { number = number; place = place; ticks = 0 } ≡ busyReply runs a b
   unfolding busyReply
-  reply-refused a b t = sym (pick-true _ _ _ (columns-many starts ends tasks ∙ (sym e ∙ t)))
+  reply-refused answer number place e bad n p = rw (n, p, ← e, bad)
 
-  reply-sum :
-      (a b ticks : ℕ) →
-      many ≡ false →
-      ticks ≡ busySum a b (runsOf starts ends tasks) →
-      record { number = 0; place = 0; ticks = ticks } ≡ busyReply (runsOf starts ends tasks) a b
+  reply-sum : (ticks : ℕ) → runsAnswer runs ≡ checked.Accepted → ticks ≡ busySum a b runs → record { number = 0; place = 0; ticks = ticks } ≡ busyReply runs a b
   unfolding busyReply
-  reply-sum a b ticks f h = rw h (sym (pick-false _ _ _ (columns-many starts ends tasks ∙ (sym e ∙ f))))
+  reply-sum ticks accepted h = rw (accepted, h)
 
 abbrev Inv-loop : tie.InvT-loop
 Inv-loop starts ends tasks a b ticks₀ i₀ ticks i =
@@ -74,18 +72,33 @@ Inv-loop starts ends tasks a b ticks₀ i₀ ticks i =
 abbrev μ-loop : tie.MeasureT-loop
 μ-loop starts ends tasks a b ticks₀ i₀ ticks i = length starts - i
 
-too-many-requires : tie.Need-too-many-requires Inv-loop μ-loop
-too-many-requires c κs = search needs
+-- past the `let .. else` the list is accepted
+accepted : (c : tie.After-enum-told Inv-loop μ-loop) →
+    let args = c .before .before .before .before .before .before .args in
+    runsAnswer (runsOf (args .starts .now) (args .ends .now) (args .tasks .now)) ≡ checked.Accepted
+accepted c = sym (c .before .before .check .ensures _) ∙ c .enum-told .given .1
+
+check-requires : tie.Need-check-requires Inv-loop μ-loop
+check-requires c κs = search needs
+
+enum-told : tie.Need-enum-told Inv-loop μ-loop
+enum-told c = search needs
+
+number-requires : tie.Need-number-requires Inv-loop μ-loop
+number-requires c κs = search needs
+
+place-requires : tie.Need-place-requires Inv-loop μ-loop
+place-requires c κs = search needs
 
 returns : tie.Need-returns Inv-loop μ-loop
 returns c =
-    let args = c .before .before .before .before .before .args in
-    reply-refused _ _ _ _ (c .before .too-many .ensures) (args .a) (args .b) (c .if1 .taken)
+    let check = c .before .before .before .check in
+    reply-refused _ _ _ (check .result) _ _ (check .ensures _) (told-refused (check .result) (c .before .before .match .keys2))
+    (c .before .number .ensures) (c .place .ensures)
 
 loop-holds : tie.Need-loop-holds Inv-loop μ-loop
 loop-holds c =
-    let few = ltb-false maxRuns _ (sym (c .before .too-many .ensures) ∙ c .if1 .left) in
-    (omega arith, few, c .before .before .before .before .before .pre .0, omega arith, sum-start _ _ _ _ _)
+    (omega arith, columns-few _ _ _ (accepted c), c .before .before .before .before .before .before .pre .0, omega arith, sum-start _ _ _ _ _)
 
 mul-shared-ticks : tie.Need-mul-shared-ticks Inv-loop μ-loop
 mul-shared-ticks c = omega arith
@@ -120,9 +133,8 @@ loop-again c =
 
 returns-2 : tie.Need-returns-2 Inv-loop μ-loop
 returns-2 c =
-    let good = c .before .before in
     let sum = sum-end _ _ _ _ _ _ _ (c .loop-test .left) (c .before .loop .inv .4) in
-    reply-sum _ _ _ _ (good .before .too-many .ensures) _ _ _ (good .if1 .left) sum
+    reply-sum _ _ _ _ (accepted (c .before .before)) sum
 
 pub busy-columns-spec : {M : Type 1} → statement M
 busy-columns-spec =
@@ -130,7 +142,10 @@ busy-columns-spec =
     (tie.spec
     Inv-loop
     μ-loop
-    too-many-requires
+    check-requires
+    enum-told
+    number-requires
+    place-requires
     returns
     loop-holds
     mul-shared-ticks

@@ -40,8 +40,9 @@ use denote.Triple.Walked.{says, needs, Stays, stay-none, walkOf, goes-none, Walk
 use denote.Exit.{yes}
 use Rattle.records.proofs.Walking.{spot, value}
 use Rattle.records.specs.RecordColumns.{heldRuns, columnsOf}
-use Rattle.schedule.specs.Queries.{runsAnswer, runAtTick, runFromTick, touching as touchingRuns, TouchingPart}
-use Rattle.schedule.specs.BusyCount.{busyReply}
+use Rattle.schedule.specs.RunCheck.{runsAnswer}
+use Rattle.schedule.specs.Queries.{runAtTick, runFromTick, touching as touchingRuns, TouchingPart}
+use Rattle.schedule.specs.BusyCount.{busyReply, CountsTicks}
 use Rattle.schedule.specs.declared.Run.{Run}
 use Rattle.schedule.proofs.Run as mRun
 use Rattle.schedule.specs.declared.RunsAnswer.{RunsAnswer}
@@ -212,7 +213,7 @@ module _ {M : Type 1} (𝓤 : URA M) (H : Heap 𝓤) (A : Atoms 𝓤) (W : Given
         land ! (spot !) (init ! 13 refl (EL.lawful mFound.the-type mFound′.the-laws 𝓤 H A W tt .typed y₃ _ is₃ .0)) $
         asks-list ! framed busy.ended (busy.clauses 𝓤 H A at-mem run) (known .counts) (to-interval α r v) α r v
         (asked 𝓤 H A W α r v (u32 ∷ u32 ∷ []) (a, (b, tt)) (vint w32 a ∷ [], (vint w32 b ∷ [], tt)) (two-numbers ga gb)) (id⊢ 𝓤 _)
-        (λ y. y ≡ busyReply (r .now) a b) (λ y e. id⊢ 𝓤 _)
+        (λ y. y ≡ busyReply (r .now) a b) (λ y e. fst∗ 𝓤 (fact 𝓤 (y ≡ busyReply (r .now) a b)) (fact 𝓤 (CountsTicks (r .now) a b y)))
         (and-then ! (value ! 19 refl) (and-then ! (value ! 24 refl) (and-then ! (value ! 22 refl) (no-more !)))) (λ w₄ y₄ e₄ is₄. drop ! $
         land ! (spot !) (init ! 11 refl (LL.lawful mBusy.the-type mBusy′.the-laws 𝓤 H A W .typed y₄ _ is₄ .0)) $
         asks-list ! framed touching.ended (touching.clauses 𝓤 H A at-mem run) (known .touches) (to-interval α r v) α r v
