@@ -230,20 +230,18 @@ struct planner_judged planner_judge(const uint8_t *file, size_t file_length,
                                     const struct planner_run *runs, size_t runs_length);
 
 /*
- * The busy count: over all runs, the ticks that the run shares with the interval from a, included, to b, excluded. It is 0 where a is not below b; a
- * run with start not below end adds 0. It means busy ticks only for runs that don't overlap; for others it is still this sum.
- * Refusals: 13.
+ * The busy count and the queries of a run list, whoever made it. The list is accepted where it has at most PLANNER_MAX_RUNS runs, every start is below
+ * its end, and no start lies before the previous end. Runs that touch, and any task numbers, are no fault.
+ * Refusals, before anything else is looked at: 13, 15. The reply of planner_runs_touching alone has no number.
  */
-struct planner_busy_count planner_busy(const struct planner_run *runs, size_t runs_length, uint32_t a, uint32_t b);
+
+/* The check: what these calls refuse of a list, and nothing else. */
+struct planner_checked planner_check_runs(const struct planner_run *runs, size_t runs_length);
 
 /*
- * Queries of a run list, whoever made it. The list is accepted where every start is below its end and no start lies before the previous end; then its runs
- * are found by halving. Runs that touch, and any task numbers, are no fault.
- * Refusals of planner_check_runs, planner_run_at and planner_run_from: 13, 15. The reply of planner_runs_touching has no number.
+ * The busy count: the number of ticks from a, included, to b, excluded, that some run holds, so at most b - a. It is 0 where a is not below b.
  */
-
-/* The check: what the queries refuse of a list, and nothing else. */
-struct planner_checked planner_check_runs(const struct planner_run *runs, size_t runs_length);
+struct planner_busy_count planner_busy(const struct planner_run *runs, size_t runs_length, uint32_t a, uint32_t b);
 
 /* The run that holds a tick: its start is not after the tick, and its end is. */
 struct planner_found planner_run_at(const struct planner_run *runs, size_t runs_length, uint32_t tick);

@@ -329,8 +329,8 @@ impl<'a> Board<'a> {
         (found.first().copied().unwrap_or(0), found.len())
     }
 
-    /// The busy count from a to b, of any list: how often a run holds a tick.
+    /// The busy count from a to b, of a list without a fault: how many ticks some run holds.
     pub fn busy(&self, a: u32, b: u32) -> u64 {
-        self.places(a, b).map(|i| self.holders[i].len() as u64).sum()
+        self.places(a, b).filter(|&i| !self.holders[i].is_empty()).count() as u64
     }
 }

@@ -276,7 +276,7 @@ pub fn busy_before(starts: &[u32], ends: &[u32], tasks: &[u32], a: u32, b: u32) 
     unsafe { before_planner_busy(starts.as_ptr(), starts.len(), ends.as_ptr(), ends.len(), tasks.as_ptr(), tasks.len(), a, b) }
 }
 
-/// What the queries refuse of a run list.
+/// What the busy count and the queries refuse of a run list.
 pub fn check_runs(runs: &[Run]) -> Checked {
     unsafe { planner_check_runs(runs.as_ptr(), runs.len()) }
 }

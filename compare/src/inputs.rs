@@ -611,7 +611,7 @@ fn run_count(random: &mut Random) -> usize {
     }
 }
 
-/// A run list as the queries accept it, of any length: every run has a tick, and none starts before the one listed before it ends. In some lists all
+/// A run list as the check accepts it, of any length: every run has a tick, and none starts before the one listed before it ends. In some lists all
 /// runs touch; some begin at tick 0, and some end at the greatest number there is. The task numbers are any.
 fn ordered_runs(random: &mut Random, length: usize) -> Vec<Run> {
     // So wide that as many runs and gaps stay below the greatest number.

@@ -1,5 +1,5 @@
 //! The independent implementation: reading, writing, moving, planning, judging, the busy count and the queries of a run list, written from the rules
-//! of documents 01 and 02 (requests 1 to 5) and not from the proved library. Only std, no unsafe code.
+//! of documents 01 and 02 (requests 1 to 6) and not from the proved library. Only std, no unsafe code.
 
 use std::cmp::Ordering;
 use std::collections::VecDeque;
@@ -623,7 +623,7 @@ pub fn plan(file: &[u8], launch: u32, marks: &mut [u8], starts: &mut [u32], ends
     Ok(plan)
 }
 
-// ---- judging and the busy count
+// ---- judging
 
 /// Refusal 13.
 fn check_count(runs: &[Run]) -> Result<(), Refusal> {
@@ -685,17 +685,9 @@ pub fn judge(file: &[u8], launch: u32, marks: &[u8], runs: &[Run]) -> Result<Ver
     Ok(Verdict { yes: true, kept, discarded })
 }
 
-/// The busy count of the interval from a to b.
-pub fn busy(runs: &[Run], a: u32, b: u32) -> Result<u64, Refusal> {
-    check_count(runs)?;
-    // Where a is not below b, or a start not below its end, the lesser end is not above the greater start: the shared ticks are 0.
-    let shared = runs.iter().map(|run| u64::from(run.end.min(b).saturating_sub(run.start.max(a))));
-    Ok(shared.sum())
-}
+// ---- the busy count and the queries of a run list
 
-// ---- the queries of a run list
-
-/// Refusals 13 and 15: what the queries refuse of a list.
+/// Refusals 13 and 15: what the busy count and the queries refuse of a list.
 pub fn check_runs(runs: &[Run]) -> Result<(), Refusal> {
     check_count(runs)?;
     // No start lies before 0, so the first run may have any.
@@ -707,6 +699,15 @@ pub fn check_runs(runs: &[Run]) -> Result<(), Refusal> {
         last_end = run.end;
     }
     Ok(())
+}
+
+/// The busy count: how many ticks of the interval from a to b some run holds. No two runs of a list
+/// that is accepted hold the same tick, so the shared ticks add up to it.
+pub fn busy(runs: &[Run], a: u32, b: u32) -> Result<u64, Refusal> {
+    check_runs(runs)?;
+    // Where a is not below b, the lesser end is not above the greater start: the shared ticks are 0.
+    let shared = runs.iter().map(|run| u64::from(run.end.min(b).saturating_sub(run.start.max(a))));
+    Ok(shared.sum())
 }
 
 /// The run that holds a tick, if one does: the first that has not ended by then, if it has begun.

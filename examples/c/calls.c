@@ -206,6 +206,7 @@ static void refused_runs(const uint8_t *file, const uint8_t *marks)
     show_checked("check 4097 runs", planner_check_runs(many, PLANNER_MAX_RUNS + 1));
 
     show_checked("check runs that overlap", planner_check_runs(overlapping, 2));
+    show_busy("busy of runs that overlap", planner_busy(overlapping, 2, 3, 9));
     show_found("run at 3 of runs that overlap", planner_run_at(overlapping, 2, 3));
     show_found("run from 3 of runs that overlap", planner_run_from(overlapping, 2, 3));
     show_part("touching 0 to 9 of runs that overlap", planner_runs_touching(overlapping, 2, 0, 9));

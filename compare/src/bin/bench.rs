@@ -134,7 +134,7 @@ fn finished() {
     let (few, many) = (tables::planned_runs(), tables::many_runs());
     judge("judge 64 tasks, 127 runs", &few);
     judge("judge 1 task, 4,096 runs", &many);
-    busy("busy count of 127 runs", 4.0, &few);
+    busy("busy count of 127 runs", 3.0, &few);
     busy("busy count of 4,096 runs", TWO_COLUMNS, &many);
 }
 

@@ -357,7 +357,7 @@ fn compare_brute_queries(random: &mut Random) -> Outcome {
             let input = || format!("from {a} to {b}, {runs:?}");
             let (first, count) = if fault.is_none() { board.touching(a, b) } else { (0, 0) };
             same(&what("runs touching an interval"), &(library.touching)(&runs, a, b), &Part { first, runs: count }, input)?;
-            let busy = BusyCount { number: 0, place: 0, ticks: board.busy(a, b) };
+            let busy = BusyCount { number, place, ticks: if fault.is_none() { board.busy(a, b) } else { 0 } };
             same(&what("busy count"), &(library.busy)(&runs, a, b), &busy, input)?;
         }
     }
@@ -560,7 +560,8 @@ fn queried_samples() -> Result<usize, String> {
     Ok(checked_samples()? + tick_samples(&eight, &apart)? + interval_samples(&eight, &apart)? + counted_samples()?)
 }
 
-/// The reply of the check, of lists that are accepted or refused; a query refuses the same, and the one for an interval answers nothing.
+/// The check of lists that are accepted or refused. The busy count of any interval and the queries refuse the same lists; the query for an interval then
+/// answers nothing.
 fn checked_samples() -> Result<usize, String> {
     let many = vec![Run::from((5, 5, 0)); MAX_RUNS + 1];
     let checks = [
@@ -584,11 +585,14 @@ fn checked_samples() -> Result<usize, String> {
             let rules = |call: &str| format!("{call} of {what}, {name} and the rules");
             same(&rules("check"), &(library.check)(runs), &Checked { number, place }, || what.to_string())?;
             if number > 0 {
+                let uncounted = BusyCount { number, place, ticks: 0 };
+                same(&rules("busy count from 0 to 9"), &(library.busy)(runs, 0, 9), &uncounted, || what.to_string())?;
+                same(&rules("busy count from 9 to 0"), &(library.busy)(runs, 9, 0), &uncounted, || what.to_string())?;
                 let none = Found { number, place, found: false, run: Run::default() };
                 same(&rules("run at 3"), &(library.at)(runs, 3), &none, || what.to_string())?;
                 same(&rules("run from 0"), &(library.from)(runs, 0), &none, || what.to_string())?;
                 same(&rules("touching 0 to 9"), &(library.touching)(runs, 0, 9), &Part { first: 0, runs: 0 }, || what.to_string())?;
-                cases += 3;
+                cases += 5;
             }
             cases += 1;
         }
@@ -656,21 +660,24 @@ fn interval_samples(eight: &[Run], apart: &[Run]) -> Result<usize, String> {
     Ok(RUN_LISTS.len() * intervals.len())
 }
 
-/// The busy count, also of lists that the queries refuse with 15. It is 64 bits wide.
+/// The busy count of lists that are accepted.
 fn counted_samples() -> Result<usize, String> {
     let last = u32::MAX;
     let counts = [
-        ("P8", list(&EIGHT), 4, 9, 0, 5),
-        ("two runs that overlap", list(&[(3, 5, 0), (4, 6, 1)]), 0, 9, 0, 4),
-        ("a reversed run between two others", list(&[(3, 5, 0), (7, 6, 0), (8, 9, 0)]), 0, 9, 0, 3),
-        ("P8's runs and an interval that is none", list(&EIGHT), 9, 4, 0, 0),
-        ("4,096 runs of all ticks", vec![Run::from((0, last, 0)); MAX_RUNS], 0, last, 0, 17_592_186_040_320),
-        ("4,097 runs", vec![Run::from((5, 5, 0)); MAX_RUNS + 1], 0, 9, 13, 0),
+        ("P8", list(&EIGHT), 4, 9, 5),
+        ("P8's runs and an interval that is none", list(&EIGHT), 9, 4, 0),
+        ("P8's runs and an interval of no tick", list(&EIGHT), 4, 4, 0),
+        ("P8's runs and an interval behind them", list(&EIGHT), 10, last, 0),
+        ("no run", vec![], 0, 9, 0),
+        ("runs apart", list(&APART), 0, last, 6),
+        ("two runs that touch", list(&[(3, 5, 0), (5, 6, 1)]), 4, 6, 2),
+        ("one run of all ticks", list(&[(0, last, 0)]), 0, last, u64::from(last)),
+        ("4,096 runs that touch", (0..MAX_RUNS as u32).map(|k| Run::from((k, k + 1, 0))).collect(), 0, last, MAX_RUNS as u64),
     ];
-    for (what, runs, a, b, number, ticks) in &counts {
+    for (what, runs, a, b, ticks) in &counts {
         for (name, library) in RUN_LISTS {
             let said = (library.busy)(runs, *a, *b);
-            same(&format!("busy count, {what}, {name} and the rules"), &said, &BusyCount { number: *number, place: 0, ticks: *ticks }, String::new)?;
+            same(&format!("busy count, {what}, {name} and the rules"), &said, &BusyCount { number: 0, place: 0, ticks: *ticks }, String::new)?;
         }
     }
     Ok(RUN_LISTS.len() * counts.len())

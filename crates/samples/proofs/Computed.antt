@@ -44,7 +44,8 @@ use Rattle.schedule.specs.Judging.{
   judged,
 }
 use Rattle.schedule.specs.BusyCount.{shared, busySum, busyReply}
-use Rattle.schedule.specs.Queries.{outOfOrder, firstOutOfOrder, runsAnswer, firstRun, runAtTick, runFromTick, runsThat, touching, stretchOf}
+use Rattle.schedule.specs.RunCheck.{outOfOrder, firstOutOfOrder, runsAnswer}
+use Rattle.schedule.specs.Queries.{firstRun, runAtTick, runFromTick, runsThat, touching, stretchOf}
 use Rattle.choice.specs.Choice.{total, worksFit, worksOf, keepLists, keptTicks, lexLess, discardedWorth, keptWorth, key, better, best, bestList, chosenBy}
 use Rattle.placement.specs.Placing.{worksPlaced, latestFirst}
 use Rattle.placement.specs.ByPosition.{numberAt}

@@ -1,11 +1,11 @@
 -- The refusals: the law that turns the test of a call into what its row says, and laws for the calls that are too large to compute.
-use Prim.Native.Nat.{ℕ, zero, suc, _≤_}
+use Prim.Native.Nat.{ℕ, zero, suc, _+_, _≤_}
 use mathlib.Core.Path.{_≡_, refl, ap, _∙_}
 use mathlib.Core.Bool.{true}
 use native.Mathlib.Omega.{arith}
 use lib.Dec.{eqb}
-use lib.ListN.{length, replicate, length-replicate}
-use borrow.Author.Tests.{eqb-true, le-ltb}
+use lib.ListN.{length}
+use borrow.Author.Tests.{eqb-true, le-ltb, lt-ltb, le-leb}
 use Rattle.base.specs.Limits.{maxRuns}
 use Rattle.base.specs.Members.{All}
 use Rattle.base.proofs.MemberLaws.{all-append}
@@ -22,9 +22,13 @@ use Rattle.table.specs.Writing.{fileOf, writeReply}
 use Rattle.table.proofs.TableLaws.{tableOf-canonical}
 use Rattle.table.proofs.FileLaws.{accepted-legal}
 use Rattle.table.proofs.RoundTrip.{written-read}
-use Rattle.schedule.specs.Runs.{runOf, tooMany}
+use Rattle.schedule.specs.declared.RunsAnswer.the-variants as checked
+use Rattle.schedule.specs.Runs.{tooMany}
+use Rattle.schedule.specs.Judging.{noneEmpty, followFrom, inOrder}
+use Rattle.schedule.specs.RunCheck.{runsAnswer, runsNumber, runsPlace}
 use Rattle.schedule.specs.BusyCount.{shared, busySum, busyReply}
-use Rattle.schedule.specs.Queries.{runsAnswer, runsNumber, runsPlace, touching, stretchOf}
+use Rattle.schedule.specs.Queries.{touching, stretchOf}
+use Rattle.schedule.proofs.CheckLaws.{ordered-accepted}
 use Rattle.samples.specs.Refusals.{
   Call,
   reads,
@@ -40,6 +44,7 @@ use Rattle.samples.specs.Refusals.{
   prints,
   CallSays,
   counted,
+  tickRuns,
   computedRows,
   largeRows,
   refusals,
@@ -87,22 +92,44 @@ written-reads count p q task room bytes e =
     ∙ ap {B = Reading} (λ (x : Table). record { answer = Accepted; nested = isNested x; table = x }) (tableOf-canonical count p q task) in
     rw r (refl, refl, refl)
 
--- the ticks of so many runs of one tick each
-ticks-of : (n : ℕ) → busySum 0 9 (replicate n (runOf 0 1 0)) ≡ n
-unfolding busySum shared
-ticks-of zero = refl
-ticks-of (suc n) = omega (arith, ticks-of n)
+-- Runs of one tick each, where none starts before the previous end.
+ticks-many : (from n : ℕ) → length (tickRuns from n) ≡ n
+unfolding tickRuns
+ticks-many from zero = refl
+ticks-many from (suc n) = ap suc (ticks-many (suc from) n)
 
--- so many of them are counted
-ticks-counted : (n : ℕ) → n ≤ maxRuns → CallSays (busyCounts (replicate n (runOf 0 1 0)) 0 9 (counted n))
-unfolding busyReply tooMany
-ticks-counted n h = rw (length-replicate n (runOf 0 1 0), le-ltb maxRuns n h, ticks-of n)
+ticks-ordered : (from n : ℕ) → (noneEmpty (tickRuns from n) ≡ true) × (followFrom from (tickRuns from n) ≡ true)
+unfolding tickRuns noneEmpty followFrom
+ticks-ordered from zero = (refl, refl)
+ticks-ordered from (suc n) =
+    let rest = ticks-ordered (suc from) n in
+    (rw (lt-ltb from (suc from) (omega arith), rest .0), rw (le-leb from from (omega arith), rest .1))
+
+-- so many of them are accepted
+ticks-accepted : (n : ℕ) → n ≤ maxRuns → runsAnswer (tickRuns 0 n) ≡ checked.Accepted
+unfolding tooMany inOrder
+ticks-accepted n h = ordered-accepted (tickRuns 0 n) (rw (ticks-many 0 n) (le-ltb maxRuns n h)) (ticks-ordered 0 n)
+
+-- each adds one to the sum of an interval around it,
+ticks-sum : (a b from n : ℕ) → a ≤ from → from + n ≤ b → busySum a b (tickRuns from n) ≡ n
+unfolding tickRuns busySum shared
+ticks-sum a b from zero l h = refl
+ticks-sum a b from (suc n) l h = omega (arith, ticks-sum a b (suc from) n (omega arith) (omega arith))
+
+-- and so they are counted
+ticks-counted : (n : ℕ) → n ≤ maxRuns → CallSays (busyCounts (tickRuns 0 n) 0 n (counted n))
+unfolding busyReply
+ticks-counted n h = rw (ticks-accepted n h, ticks-sum 0 n 0 n (omega arith) (omega arith))
 
 -- The refusals: each call of the table gets the whole reply of its row.
 pub refusal-samples : All CallSays refusals
 unfolding tableOf
 refusal-samples =
+    let ticks-in-limit = ticks-accepted 4_096 (omega arith) in
     all-append CallSays computedRows largeRows computed-say (
       planned-later 86_399_999 p8Table p8File 1 2 p8Marks p8Runs refl p8-at-0 .1,
-      (written-reads 64 1 1 _ 500 500 (computed-say .0), (ticks-counted 4_096 (omega arith), tt)),
+      (
+        written-reads 64 1 1 _ 500 500 (computed-say .0),
+        ((ap runsNumber ticks-in-limit, ap runsPlace ticks-in-limit), (ticks-counted 4_096 (omega arith), tt)),
+      ),
     )

@@ -1,7 +1,7 @@
--- The refusals of document 01, with 7 and 8 as request 1 of document 02 has them, 14 of request 2 and 15 of request 5, as one table of 163 calls and their
--- whole replies: every number with its place, the order among the numbers, calls at a limit that are not refused, calls on similar tables, which are not
+-- The refusals of document 01, with 7 and 8 as request 1 of document 02 has them, 14 of request 2 and 15 of requests 5 and 6, as one table of 176 calls and
+-- their whole replies: every number with its place, the order among the numbers, calls at a limit that are not refused, calls on similar tables, which are not
 -- refused either, what the judge says of runs at the ends of a window, and what the queries answer at the ends of runs.
-use Prim.Native.Nat.{ℕ, _-_}
+use Prim.Native.Nat.{ℕ, zero, suc, _-_}
 use mathlib.Core.Path.{_≡_}
 use mathlib.Core.Bool.{true, false}
 use mathlib.Core.List.{List, [], _∷_, _++_}
@@ -22,19 +22,8 @@ use Rattle.schedule.specs.Ticks.{one}
 use Rattle.schedule.specs.Runs.{runOf as run, noRun}
 use Rattle.schedule.specs.Judging.{judged, judgeDeclined, judgeSays}
 use Rattle.schedule.specs.BusyCount.{busyReply}
-use Rattle.schedule.specs.Queries.{
-  runsAnswer,
-  runsNumber,
-  runsPlace,
-  runAtTick,
-  runFromTick,
-  foundNumber,
-  foundPlace,
-  isFound,
-  foundRun,
-  touching,
-  stretchOf,
-}
+use Rattle.schedule.specs.RunCheck.{runsAnswer, runsNumber, runsPlace}
+use Rattle.schedule.specs.Queries.{runAtTick, runFromTick, foundNumber, foundPlace, isFound, foundRun, touching, stretchOf}
 use Rattle.plans.specs.declared.Planned.{Planned}
 use Rattle.plans.specs.Planning.{LentLists, lent, listsFor, planDeclined, planReply, planMade}
 use Rattle.printed_plan.specs.ProgramInput.{printedInput}
@@ -373,13 +362,29 @@ launchRows =
     ∷ prints (0x00 ∷ 0x5C ∷ 0x26 ∷ 0x05 ∷ outermostExceeds) (textOf ("REFUSED 8 1" ∷ []))
     ∷ []
 
--- Busy count: 13 only.
+-- Busy count: 13, then 15.
 abbrev pub busyRows : List Call
 busyRows =
-    -- 4,097 runs
+    -- 13: 4,097 runs, also where 15 has its cause, and whatever the interval
     busyCounts (replicate 4_097 (run 0 1 0)) 0 9 (uncounted 13 0)
-    -- runs that are out of order are counted as they are: one that is empty, one that is reversed, and two that share a tick
-    ∷ busyCounts (run 2 2 0 ∷ run 6 4 0 ∷ run 3 7 1 ∷ run 6 8 0 ∷ []) 0 9 (counted 6)
+    ∷ busyCounts (replicate 4_097 noRun) 9 0 (uncounted 13 0)
+    -- 15, the index of the first run that is out of order: one without a tick, one that is reversed, one that starts before the previous end
+    ∷ busyCounts (run 2 2 0 ∷ run 6 4 0 ∷ run 3 7 1 ∷ run 6 8 0 ∷ []) 0 9 (uncounted 15 0)
+    ∷ busyCounts (run 0 1 0 ∷ run 4 3 0 ∷ []) 0 9 (uncounted 15 1)
+    ∷ busyCounts (run 0 1 0 ∷ run 1 3 0 ∷ run 2 4 1 ∷ run 4 4 0 ∷ []) 0 9 (uncounted 15 2)
+    -- two runs of all ticks of the interval, whose sum would be twice its length
+    ∷ busyCounts (run 0 10 0 ∷ run 0 10 1 ∷ []) 5 10 (uncounted 15 1)
+    -- later runs first
+    ∷ busyCounts (run 8 10 0 ∷ run 5 6 0 ∷ run 2 4 0 ∷ []) 3 9 (uncounted 15 1)
+    -- before a and b are looked at: where a is not below b, and where the interval shares no tick with any run
+    ∷ busyCounts (run 3 5 0 ∷ run 4 6 1 ∷ []) 5 5 (uncounted 15 1)
+    ∷ busyCounts (run 3 5 0 ∷ run 4 6 1 ∷ []) 9 0 (uncounted 15 1)
+    ∷ busyCounts (run 3 5 0 ∷ run 4 6 1 ∷ []) 7 9 (uncounted 15 1)
+    -- lists that are accepted: all ticks of touching runs, the length of an interval within them, one tick on each side of a gap, and no run
+    ∷ busyCounts (run 3 5 0 ∷ run 5 6 2 ∷ run 6 9 0 ∷ []) 0 20 (counted 6)
+    ∷ busyCounts (run 3 5 0 ∷ run 5 6 2 ∷ run 6 9 0 ∷ []) 4 8 (counted 4)
+    ∷ busyCounts (run 3 5 0 ∷ run 8 10 4_294_967_295 ∷ []) 4 9 (counted 2)
+    ∷ busyCounts [] 0 9 (counted 0)
     -- an interval without a tick
     ∷ busyCounts (run 3 7 1 ∷ []) 5 5 (counted 0)
     ∷ busyCounts (run 3 7 1 ∷ []) 9 0 (counted 0)
@@ -443,15 +448,21 @@ limitRows =
     ∷ judges p8File 0 p8Marks (replicate 4_096 noRun) (judgeSays false 0 0)
     ∷ []
 
--- And three more, which are proved by laws: to compute them takes too long.
+-- so many runs of one tick each, the first from a tick on and each other where the one before it ends
+unfoldable pub tickRuns : ℕ → ℕ → List Run
+tickRuns from zero = []
+tickRuns from (suc n) = run from (suc from) 0 ∷ tickRuns (suc from) n
+
+-- And four more, which are proved by laws: to compute them takes too long.
 abbrev pub largeRows : List Call
 largeRows =
     -- a plan at the greatest launch tick
     plans p8File 86_399_999 (listsFor 3) (planMade 1 2 5)
     -- 64 tasks are read
     ∷ reads (fileOf (equalTasks 64)) 0 0 (equalTasks 64)
-    -- 4,096 runs are counted, one tick each
-    ∷ busyCounts (replicate 4_096 (run 0 1 0)) 0 9 (counted 4_096)
+    -- 4,096 runs are accepted, and counted: they hold every tick of the interval
+    ∷ checks (tickRuns 0 4_096) 0 0
+    ∷ busyCounts (tickRuns 0 4_096) 0 4_096 (counted 4_096)
     ∷ []
 
 -- the rows whose test is computed, and all rows

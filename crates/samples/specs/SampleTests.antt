@@ -24,7 +24,8 @@ use Rattle.schedule.specs.Jobs.{jobAt}
 use Rattle.schedule.specs.Runs.{startsOf, endsOf, tasksOf}
 use Rattle.schedule.specs.Judging.{judged}
 use Rattle.schedule.specs.BusyCount.{busyReply}
-use Rattle.schedule.specs.Queries.{runsAnswer, runsNumber, runsPlace, runAtTick, runFromTick, touching, stretchOf}
+use Rattle.schedule.specs.RunCheck.{runsAnswer, runsNumber, runsPlace}
+use Rattle.schedule.specs.Queries.{runAtTick, runFromTick, touching, stretchOf}
 use Rattle.plans.specs.declared.Planned.{Planned}
 use Rattle.plans.specs.Planning.{listsFor, planReply, planMarks, planRuns}
 use Rattle.printed_plan.specs.ProgramInput.{printedInput}

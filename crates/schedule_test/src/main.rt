@@ -3,7 +3,7 @@
 //
 // A line of judging has the table file, the launch tick, the keep list in bytes, and the runs by their starts, ends and tasks. A line of counting has the
 // runs, the interval's first tick, and the tick behind its last. A line of asking has the runs, a tick, and an interval. What is printed is the case's
-// title, and the number and place of the answer; then of judging the verdict and the counts kept and discarded, of counting the sum, and of asking the run
+// title, and the number and place of the answer; then of judging the verdict and the counts kept and discarded, of counting the ticks, and of asking the run
 // at the tick, the first run that starts at it or after it, and the stretch that touches the interval.
 //
 // The runs of a case stand in an array, and its first runs are lent to the entry points as a list of records.
@@ -67,7 +67,7 @@ fn judge(line: &[u8]) {
 }
 
 // Prints the answer of counting.
-fn show_sum(reply: Busy) {
+fn show_busy(reply: Busy) {
     cases::show(
         b" # # #\n",
         &[reply.number as u64, reply.place as u64, reply.ticks],
@@ -81,8 +81,8 @@ fn count(line: &[u8]) {
     let a = cases::number(line, 4);
     let b = cases::number(line, 5);
     let answers = record_calls::ask_rows(rows, columns.count, a, a, b);
-    let sum = answers.busy;
-    show_sum(sum);
+    let busy = answers.busy;
+    show_busy(busy);
 }
 
 // Prints the answer of a query for one run: number, place, 1 or 0 for a run or none, and the run.
