@@ -34,7 +34,7 @@ shared-slice-read-end c = search needs
 returns : tie.Need-returns Inv-loop μ-loop
 returns c tasks =
     let inv = c .before .before .before .before .loop .inv in
-    search-found (broken _ _) _ _ (inv .0) (omega arith) (broken-empty _ _ _ (c .if1 .taken)) ∙ broken-first _ _ tasks
+    search-found (broken _ _) _ _ (inv .0) (omega arith) (broken-empty _ _ _ (omega arith)) ∙ broken-first _ _ tasks
 
 returns-2 : tie.Need-returns-2 Inv-loop μ-loop
 returns-2 c tasks =
