@@ -3,6 +3,9 @@
 use crate::random::Random;
 use crate::reference::{self, Clock, Kind, Run, Table, Task, LAST_FRAME, MAX_LAUNCH, MAX_PERIOD, MAX_RUNS, MAX_TASKS, MAX_TICKS};
 
+/// The greatest number that a call refuses with.
+pub const LAST_REFUSAL: u32 = 15;
+
 /// How the lengths of a table's parts compare with the ticks that its windows have.
 #[derive(Clone, Copy, Debug, PartialEq, Eq)]
 pub enum Load {
