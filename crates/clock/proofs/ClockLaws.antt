@@ -5,7 +5,7 @@ use mathlib.Core.Bool.{true}
 use native.Mathlib.Nat.{le-refl, mul-le-mul, mul-le-mul-right, add-mul, add-mul-div-right, div-zero, div-add-mod', div-le-self, div-mul-le-self, div-lt-iff-lt-mul, le-div-iff-mul-le, lt-div-mul-add}
 use native.Mathlib.Omega.{arith}
 use Rattle.base.specs.Limits.{lastFrame, maxPeriod, maxLaunch, lastTick}
-use Rattle.clock.specs.Clock.{LegalPeriod, releaseOffset, deadlineOffset, releaseTick, deadlineTick}
+use Rattle.clock.specs.Clock.{LegalPeriod, releaseOffset, deadlineOffset, releaseTick, deadlineTick, LeastNotBefore, GreatestNotAfter}
 use Rattle.clock.specs.ClockSamples.{clockSamples, sampleHolds, everySampleHolds}
 
 -- The clock gives both ticks of every sample.
@@ -30,27 +30,61 @@ pub deadline-later : (launch p q f : ℕ) → deadlineTick launch p q f ≡ dead
 unfolding deadlineTick
 deadline-later launch p q f = omega arith
 
--- Counted from the launch, the release tick is not before (f + 1) × p / q.
+-- Counted from the launch, the release tick is the least tick not before (f + 1) × p / q,
 pub release-not-before : (p q f : ℕ) → 1 ≤ q → (f + 1) * p ≤ releaseOffset p q f * q
 unfolding releaseOffset
 release-not-before p q f positive = omega (arith, lt-div-mul-add {a = (f + 1) * p + (q - 1)} positive)
 
--- It is the least tick not before (f + 1) × p / q.
 pub release-least : (p q f t : ℕ) → 1 ≤ q → (f + 1) * p ≤ t * q → releaseOffset p q f ≤ t
 unfolding releaseOffset
 release-least p q f t positive reaches =
     let below : (f + 1) * p + (q - 1) < (t + 1) * q = omega (arith, add-mul t 1 q) in
     omega (arith, div-lt-iff-lt-mul positive .1 below)
 
--- Counted from the launch, the deadline tick is not after f × p / q.
-pub deadline-not-after : (p q f : ℕ) → 1 ≤ q → deadlineOffset p q f * q ≤ f * p
-unfolding deadlineOffset
-deadline-not-after p q f positive = div-mul-le-self (f * p) q
+pub release-meets : (launch p q f : ℕ) → 1 ≤ q → LeastNotBefore launch p q f (releaseTick launch p q f)
+unfolding releaseTick
+release-meets launch p q f positive =
+    record {
+      offset = releaseOffset p q f;
+      counted = refl;
+      not-before = release-not-before p q f positive;
+      least = λ other h. release-least p q f other positive h;
+    }
 
--- It is the greatest tick not after f × p / q.
+-- and no other tick is.
+pub release-only : (launch p q f tick : ℕ) → 1 ≤ q → LeastNotBefore launch p q f tick → tick ≡ releaseTick launch p q f
+unfolding releaseTick
+release-only launch p q f tick positive m =
+    let counted = m .counted in
+    omega
+    (arith, m .least (releaseOffset p q f) (release-not-before p q f positive), release-least p q f (m .offset) positive (m .not-before))
+
+-- Counted from the launch, the deadline tick is the greatest tick not after f × p / q,
+pub deadline-not-after : (p q f : ℕ) → deadlineOffset p q f * q ≤ f * p
+unfolding deadlineOffset
+deadline-not-after p q f = div-mul-le-self (f * p) q
+
 pub deadline-greatest : (p q f t : ℕ) → 1 ≤ q → t * q ≤ f * p → t ≤ deadlineOffset p q f
 unfolding deadlineOffset
 deadline-greatest p q f t positive within = le-div-iff-mul-le positive .1 within
+
+pub deadline-meets : (launch p q f : ℕ) → 1 ≤ q → GreatestNotAfter launch p q f (deadlineTick launch p q f)
+unfolding deadlineTick
+deadline-meets launch p q f positive =
+    record {
+      offset = deadlineOffset p q f;
+      counted = refl;
+      not-after = deadline-not-after p q f;
+      greatest = λ other h. deadline-greatest p q f other positive h;
+    }
+
+-- and no other tick is.
+pub deadline-only : (launch p q f tick : ℕ) → 1 ≤ q → GreatestNotAfter launch p q f tick → tick ≡ deadlineTick launch p q f
+unfolding deadlineTick
+deadline-only launch p q f tick positive m =
+    let counted = m .counted in
+    omega
+    (arith, m .greatest (deadlineOffset p q f) (deadline-not-after p q f), deadline-greatest p q f (m .offset) positive (m .not-after))
 
 -- Division keeps the order, by 0 too.
 div-monotone : (q m n : ℕ) → m ≤ n → m / q ≤ n / q

@@ -1,5 +1,6 @@
 -- The frame clock of documents 01 and 02. A period is two whole numbers p and q: one frame lasts p/q ticks, and frame 0 begins at the launch tick.
 use Prim.Native.Nat.{ℕ, _+_, _-_, _*_, _/_, _≤_}
+use mathlib.Core.Path.{_≡_}
 use mathlib.Core.Bool.{Bool}
 use lib.Dec.{ltb}
 use Rattle.base.specs.Limits.{maxPeriod, maxLaunch}
@@ -33,3 +34,20 @@ releaseTick launch p q f = releaseOffset p q f + launch
 -- the tick of a deadline in frame f
 unfoldable pub deadlineTick : ℕ → ℕ → ℕ → ℕ → ℕ
 deadlineTick launch p q f = deadlineOffset p q f + launch
+
+-- The two sentences once more, with no division. The formulas above meet them, and nothing else does: the clauses `least` and `greatest` of the clock's
+-- functions, and the theorems `release-only` and `deadline-only`.
+
+-- counted from the launch, a tick is 'the least tick not before' (f + 1) × p / q, where frame f ends
+pub record LeastNotBefore (launch p q f tick : ℕ) : Type 0 where
+  pub offset : ℕ
+  pub counted : tick ≡ offset + launch
+  pub not-before : (f + 1) * p ≤ offset * q
+  pub least : (other : ℕ) → (f + 1) * p ≤ other * q → offset ≤ other
+
+-- counted from the launch, a tick is 'the greatest tick not after' f × p / q, where frame f begins
+pub record GreatestNotAfter (launch p q f tick : ℕ) : Type 0 where
+  pub offset : ℕ
+  pub counted : tick ≡ offset + launch
+  pub not-after : offset * q ≤ f * p
+  pub greatest : (other : ℕ) → other * q ≤ f * p → other ≤ offset

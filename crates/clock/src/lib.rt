@@ -4,7 +4,7 @@
 ghost use mathlib.Core.Path.{_≡_};
 ghost use Prim.Native.Nat.{_≤_};
 ghost use Rattle.base.specs.Limits.{lastFrame, maxLaunch};
-ghost use Rattle.clock.specs.Clock.{badLaunch, releaseTick, deadlineTick, LegalPeriod};
+ghost use Rattle.clock.specs.Clock.{badLaunch, releaseTick, deadlineTick, LegalPeriod, LeastNotBefore, GreatestNotAfter};
 use base::MAX_LAUNCH;
 
 // The launch tick is above the limit.
@@ -19,7 +19,8 @@ pub fn release_tick(launch: u32, frame: u32, p: u32, q: u32) -> u32
     requires { ⌜ launch ≤ maxLaunch ⌝ }
     requires { ⌜ frame ≤ lastFrame ⌝ }
     requires { ⌜ LegalPeriod p q ⌝ }
-    ensures { λ r. ⌜ r ≡ releaseTick launch p q frame ⌝ }
+    ensures tick { λ r. ⌜ r ≡ releaseTick launch p q frame ⌝ }
+    ensures least { λ r. ⌜ LeastNotBefore launch p q frame r ⌝ }
 {
     ((frame + 1) * p + (q - 1)) / q + launch
 }
@@ -29,7 +30,8 @@ pub fn deadline_tick(launch: u32, frame: u32, p: u32, q: u32) -> u32
     requires { ⌜ launch ≤ maxLaunch ⌝ }
     requires { ⌜ frame ≤ lastFrame ⌝ }
     requires { ⌜ LegalPeriod p q ⌝ }
-    ensures { λ r. ⌜ r ≡ deadlineTick launch p q frame ⌝ }
+    ensures tick { λ r. ⌜ r ≡ deadlineTick launch p q frame ⌝ }
+    ensures greatest { λ r. ⌜ GreatestNotAfter launch p q frame r ⌝ }
 {
     frame * p / q + launch
 }

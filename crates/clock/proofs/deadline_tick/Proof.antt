@@ -1,7 +1,8 @@
 -- `deadline_tick` meets its contract: frame * p fits 32 bits, and so does the tick.
+use mathlib.Core.Path.{refl}
 use borrow.Author.Needs.{needs}
 use Rattle.clock.specs.Clock.{deadlineOffset, deadlineTick}
-use Rattle.clock.proofs.ClockLaws.{product-few, number-fits, tick-fits}
+use Rattle.clock.proofs.ClockLaws.{deadline-meets, product-few, number-fits, tick-fits}
 use Rattle.clock.proofs.deadline_tick.Statement.{statement}
 use Rattle.clock.proofs.deadline_tick.Tie as tie
 
@@ -16,7 +17,7 @@ add-result c = record { fits = tick-fits _ (product-few (search needs) (search n
 
 returns : tie.Need-returns
 unfolding deadlineTick deadlineOffset
-returns c = search needs
+returns c = (refl, deadline-meets _ _ _ _ (search needs))
 
 pub deadline-tick-spec : {M : Type 1} → statement M
 deadline-tick-spec = tie.close (tie.spec mul-result div-result add-result returns)

@@ -1,7 +1,8 @@
 -- `release_tick` meets its contract: (frame + 1) * p fits 32 bits, also with q - 1 added, and so does the tick.
+use mathlib.Core.Path.{refl}
 use borrow.Author.Needs.{needs}
 use Rattle.clock.specs.Clock.{releaseOffset, releaseTick}
-use Rattle.clock.proofs.ClockLaws.{sum-few, product-few, number-fits, tick-fits}
+use Rattle.clock.proofs.ClockLaws.{release-meets, sum-few, product-few, number-fits, tick-fits}
 use Rattle.clock.proofs.release_tick.Statement.{statement}
 use Rattle.clock.proofs.release_tick.Tie as tie
 
@@ -25,7 +26,7 @@ add-result-3 c = record { fits = tick-fits _ (sum-few (search needs) (search nee
 
 returns : tie.Need-returns
 unfolding releaseTick releaseOffset
-returns c = search needs
+returns c = (refl, release-meets _ _ _ _ (search needs))
 
 pub release-tick-spec : {M : Type 1} → statement M
 release-tick-spec = tie.close (tie.spec add-result mul-result sub-result add-result-2 div-result add-result-3 returns)

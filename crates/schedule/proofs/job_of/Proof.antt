@@ -12,7 +12,7 @@ deadline-tick-requires c κs = search needs
 
 returns : tie.Need-returns
 unfolding jobOf
-returns c = rw (c .before .release-tick .ensures, c .deadline-tick .ensures)
+returns c = rw (c .before .release-tick .ensures .0, c .deadline-tick .ensures .0)
 
 pub job-of-spec : {M : Type 1} → statement M
 job-of-spec = tie.close (tie.spec release-tick-requires deadline-tick-requires returns)
