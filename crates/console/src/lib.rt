@@ -9,7 +9,7 @@ ghost use Rattle.lines.specs.Putting.{Put};
 ghost use Rattle.schedule.specs.Queries.{touching};
 ghost use Rattle.printed_plan.specs.Printing.{runLines, printLength, printedOver};
 ghost use Rattle.printed_plan.specs.ProgramInput.{Prints};
-ghost use Rattle.printed_plan.specs.NowText.{foundLine, nowLines, nowText, nowInputBytes, printedNow};
+ghost use Rattle.printed_plan.specs.NowText.{foundLine, nowLines, nowText, PlanAccepted, nowInputBytes, printedNow};
 use base::MAX_PLAN_RUNS;
 use base::MAX_TASKS;
 use report::LAUNCH_BYTES;
@@ -99,10 +99,12 @@ fn put_now(
 }
 
 // Plans a file at a launch tick and prints what runs at a tick and next, and the runs of the `span` ticks from it on, or the refusal, at the
-// front of a lent list; the number of bytes printed. A list shorter than MAX_TEXT is left as it is, and the reply is 0.
+// front of a lent list; the number of bytes printed. A list shorter than MAX_TEXT is left as it is, and the reply is 0. The runs of a plan are never
+// refused: NONE says that there is no run.
 pub fn print_now(file: &[u8], launch: u32, tick: u32, span: u32, out: &mut [u8]) -> usize
     ensures length_is { λ r. ⌜ r ≡ printLength (nowText launch tick span (now (file .entry))) (length (now (out .entry))) ⌝ }
     ensures content { λ r. ⌜ now (out .exit) ≡ printedOver (nowText launch tick span (now (file .entry))) (now (out .entry)) ⌝ }
+    ensures plan_accepted { λ r. ⌜ PlanAccepted launch (now (file .entry)) ⌝ }
 {
     if out.len() < MAX_TEXT {
         return 0;

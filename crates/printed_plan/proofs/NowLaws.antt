@@ -21,10 +21,11 @@ use Rattle.plans.specs.declared.Planned.{Planned}
 use Rattle.plans.specs.Planning.{LentLists, planRuns}
 use Rattle.plans.specs.Demands.{runsIn}
 use Rattle.plans.proofs.PlanLaws.{plan-few}
-use Rattle.plans.proofs.ReplyLaws.{Replied, runs-taken}
+use Rattle.plans.proofs.ReplyLaws.{Replied, plan-made, runs-taken}
+use Rattle.plans.proofs.AskedPlans.{plan-asked}
 use Rattle.printed_plan.specs.Printing.{runLines, refusalText, longReply, maxLine, maxText, printLength, printedOver}
 use Rattle.printed_plan.specs.ProgramInput.{launchBytes, launchIn}
-use Rattle.printed_plan.specs.NowText.{nowWord, nextWord, nowNone, nextNone, foundLine, nowLines, nowText}
+use Rattle.printed_plan.specs.NowText.{nowWord, nextWord, nowNone, nextNone, foundLine, nowLines, nowText, PlanAccepted}
 use Rattle.printed_plan.specs.NowText.{nowBytes, nowInputBytes, tickIn, spanIn, printedNow}
 use Rattle.printed_plan.proofs.TextLaws.{runs-length, replied-length, replied-planned, replied-refused, replied-prefix}
 use Rattle.printed_plan.proofs.InputLaws.{text-length, text-short, text-whole, text-prefix, drop-first, number-first}
@@ -126,6 +127,13 @@ module _ (launch tick span : ℕ) where
   pub now-file-prefix : (file : List ℕ) → nowText launch tick span (take heldBytes file) ≡ nowText launch tick span file
   unfolding nowText
   now-file-prefix = replied-prefix linesOf launch
+
+-- The check accepts the runs of every plan that is printed.
+pub plan-accepted : (launch : ℕ) (file : List ℕ) → PlanAccepted launch file
+unfolding longReply
+plan-accepted launch file z =
+    let p = plan-made launch file _ z .made in
+    plan-asked launch (tableIn file) (p .legal) (p .none)
 
 -- The input of the program: what is made of it.
 abbrev nowOfInput : List ℕ → List ℕ

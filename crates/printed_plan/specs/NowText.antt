@@ -1,6 +1,7 @@
 -- What runs now, what runs next: the text that is printed of a table file for a tick of its plan, as bytes, and the input of the program that prints it.
 use Prim.Native.Nat.{ℕ, _+_, _*_}
 use mathlib.Core.List.{List, [], _∷_, _++_}
+use mathlib.Core.Path.{_≡_}
 use lib.Dec.{ltb, eqb}
 use lib.ListN.{length, drop}
 use Rattle.base.specs.Tests.{pick}
@@ -9,6 +10,8 @@ use Rattle.table.specs.Layout.{heldBytes}
 use Rattle.table.specs.Reading.{tableIn}
 use Rattle.schedule.specs.declared.Run.{Run}
 use Rattle.schedule.specs.declared.Found.{Found}
+use Rattle.schedule.specs.declared.RunsAnswer.the-variants as checked
+use Rattle.schedule.specs.RunCheck.{runsAnswer}
 use Rattle.schedule.specs.Queries.{runAtTick, runFromTick, isFound, foundRun, touching}
 use Rattle.plans.specs.Planning.{planRuns}
 use Rattle.printed_plan.specs.Printing.{runLines, refusalText, longReply}
@@ -44,6 +47,10 @@ unfoldable pub nowText : ℕ → ℕ → ℕ → List ℕ → List ℕ
 nowText launch tick span file =
     pick (eqb (longReply launch file .number) 0) (nowLines (planRuns launch (tableIn file)) tick span)
     (refusalText (longReply launch file .number) (longReply launch file .place))
+
+-- where planning does not refuse the file, the check accepts the runs of its plan: so no query of them is refused, and NONE never stands for a refusal
+abbrev pub PlanAccepted : ℕ → List ℕ → Type 0
+PlanAccepted launch file = longReply launch file .number ≡ 0 → runsAnswer (planRuns launch (tableIn file)) ≡ checked.Accepted
 
 -- The input of the program: the launch tick, the tick and the number of ticks from it on, each of 4 bytes with the high byte first, and then a table file.
 

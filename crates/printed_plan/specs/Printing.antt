@@ -64,15 +64,15 @@ printed launch file =
     pick (eqb (longReply launch file .number) 0) (planText launch (tableIn file))
     (refusalText (longReply launch file .number) (longReply launch file .place))
 
--- no line is longer: a word of at most 7 bytes, 3 numbers, each with a space, and a newline
+-- a bound: no line is longer than a word of 7 bytes, 3 numbers of 20 digits, each with a space, and a newline
 abbrev pub maxLine : ℕ
 maxLine = 7 + 3 * maxField + 1
 
--- no text is longer: the PLAN line, a DROP line for each task and a RUN line for each run
+-- a bound: no text is longer than the PLAN line, a DROP line for each task and a RUN line for each run, each of so many bytes
 abbrev pub maxText : ℕ
 maxText = (1 + maxTasks + maxPlanRuns) * maxLine
 
--- how many bytes of a text are printed into a list of `room` places: none into one that is shorter than the longest text
+-- how many bytes of a text are printed into a list of `room` places: none into one that is shorter than the bound above
 unfoldable pub printLength : List ℕ → ℕ → ℕ
 printLength text room = pick (ltb room maxText) 0 (length text)
 

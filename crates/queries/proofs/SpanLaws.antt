@@ -44,6 +44,6 @@ span-touching runs a b =
     between : (first count : ℕ) → first + count - first ≡ count
     between first count = omega arith
 
--- which are one unbroken part of a list that is accepted
+-- which are one unbroken part of a list that is accepted: each shares a tick with the interval, and none of the others does
 pub part-unbroken : (runs part : List Run) (a b : ℕ) → part ≡ touching runs a b → TouchingPart a b runs part
 part-unbroken runs part a b e accepted = rw e (touching-unbroken runs a b accepted)

@@ -3,7 +3,7 @@
 // done there.
 ghost use mathlib.Core.Path.{_≡_};
 ghost use Rattle.schedule.specs.RunCheck.{runsAnswer};
-ghost use Rattle.schedule.specs.Queries.{runAtTick, runFromTick, touching, stretchOf, TouchingPart};
+ghost use Rattle.schedule.specs.Queries.{runAtTick, runFromTick, HoldsTick, FirstFrom, touching, stretchOf, TouchingPart};
 ghost use Rattle.records.specs.RecordColumns.{HeldColumns, runsHeld};
 ghost use Rattle.queries.specs.Spans.{spanOf};
 use records::RunColumns;
@@ -85,19 +85,22 @@ pub fn check(runs: &[Run]) -> RunsAnswer
 
 // The run that holds a tick, or none.
 pub fn run_at(runs: &[Run], tick: u32) -> Found
-    ensures { λ r. ⌜ r ≡ runAtTick (now (runs .entry)) tick ⌝ }
+    ensures reply { λ r. ⌜ r ≡ runAtTick (now (runs .entry)) tick ⌝ }
+    ensures holds_tick { λ r. ⌜ HoldsTick (now (runs .entry)) tick r ⌝ }
 {
     run_at_held(records::columns_of(runs), tick)
 }
 
 // The first run that starts at a tick or after it, or none.
 pub fn run_from(runs: &[Run], tick: u32) -> Found
-    ensures { λ r. ⌜ r ≡ runFromTick (now (runs .entry)) tick ⌝ }
+    ensures reply { λ r. ⌜ r ≡ runFromTick (now (runs .entry)) tick ⌝ }
+    ensures first_from { λ r. ⌜ FirstFrom (now (runs .entry)) tick r ⌝ }
 {
     run_from_held(records::columns_of(runs), tick)
 }
 
-// The stretch of the caller's own run list whose runs share a tick with the interval from `a` to `b`; it is empty where the check refuses the list.
+// The stretch of the caller's own run list whose runs share a tick with the interval from `a` to `b`; it is empty where the check refuses the list. Where
+// in the caller's list an empty stretch lies is left free.
 pub fn touching(runs: &[Run], a: u32, b: u32) -> &[Run]
     ensures runs_are { λ r. ⌜ now r ≡ touching (now (runs .entry)) a b ⌝ }
     ensures unbroken { λ r. ⌜ TouchingPart a b (now (runs .entry)) (now r) ⌝ }

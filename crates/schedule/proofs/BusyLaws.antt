@@ -80,11 +80,14 @@ sum-owned runs accepted a b =
           omega (arith, sum-none-interval a b runs (omega arith), count-fits (λ tick. isOwned (ownerOf runs tick)) a b)
     ]
 
--- an accepted count is that number, and at most the length of the interval
+-- and at most the length of the interval
+pub sum-most : (runs : List Run) → runsAnswer runs ≡ checked.Accepted → (a b : ℕ) → busySum a b runs ≤ b - a
+sum-most runs accepted a b = omega (arith, sum-owned runs accepted a b, count-fits (λ tick. isOwned (ownerOf runs tick)) a b)
+
+-- an accepted count is that number
 pub counts-ticks : (runs : List Run) (a b : ℕ) (reply : Busy) → reply ≡ busyReply runs a b → CountsTicks runs a b reply
 unfolding busyReply
 counts-ticks runs a b reply e zero-number =
     let accepted = number-accepted (runsAnswer runs) (ap (λ (r : Busy). r .number) (sym e) ∙ zero-number) in
     let ticks : reply .ticks ≡ busySum a b runs = ap (λ (r : Busy). r .ticks) e ∙ rw accepted in
-    let owned = ticks ∙ sum-owned runs accepted a b in
-    (owned, omega (arith, owned, count-fits (λ tick. isOwned (ownerOf runs tick)) a b))
+    (ticks ∙ sum-owned runs accepted a b, omega (arith, sum-most runs accepted a b))

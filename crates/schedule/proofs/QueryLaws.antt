@@ -9,25 +9,25 @@ use native.Mathlib.Omega.{arith}
 use native.Mathlib.Decide.{decLt}
 use lib.Dec.{eqb}
 use lib.ListN.{length, getD, take, drop}
-use borrow.Author.Tests.{leb-true, leb-false, eqb-true}
+use borrow.Author.Tests.{leb-true, leb-false, le-leb, lt-leb, eqb-true}
 use Rattle.base.specs.Lowest.{lowest}
 use Rattle.base.specs.Members.{All, Any}
 use Rattle.base.proofs.TestLaws.{cases, pick-same, pick-cases}
 use Rattle.base.proofs.LowestLaws.{before, passes}
-use Rattle.base.proofs.MemberLaws.{all-map}
+use Rattle.base.proofs.MemberLaws.{all-map, all-at}
 use Rattle.schedule.specs.declared.Run.{Run}
-use Rattle.schedule.specs.declared.RunsAnswer.{RunsAnswer}
 use Rattle.schedule.specs.declared.RunsAnswer.the-variants as checked
+use Rattle.schedule.specs.declared.Found.{Found}
 use Rattle.schedule.specs.declared.Found.the-variants as found
 use Rattle.schedule.specs.declared.Stretch.{Stretch}
 use Rattle.schedule.specs.Runs.{noRun, runHolds}
-use Rattle.schedule.specs.Judging.{noneEmpty, inOrder}
 use Rattle.schedule.specs.RunCheck.{runsAnswer, runsAccepted}
-use Rattle.schedule.specs.Queries.{firstRun, startsFrom, foundBy, runAtTick, runFromTick, touches, touching, stretchOf, Unbroken}
+use Rattle.schedule.specs.Queries.{firstRun, startsFrom, foundBy, runAtTick, runFromTick, HoldsTick, FirstFrom}
+use Rattle.schedule.specs.Queries.{touches, touching, stretchOf, SharesTick, TouchingPart}
 use Rattle.schedule.proofs.RunLaws.{run-holds, in-holds}
-use Rattle.schedule.proofs.CheckLaws.{accepted-is, ends-before, all-indices, judge-order, accepted-ordered}
+use Rattle.schedule.proofs.CheckLaws.{accepted-is, accepted-order, ends-before, all-indices}
 use Rattle.schedule.proofs.SearchLaws.{first-some, first-none}
-use Rattle.schedule.proofs.StretchLaws.{touches-sides, touches-not, passing-none, Stretched, stretched-unbroken, unbroken-runs}
+use Rattle.schedule.proofs.StretchLaws.{touches-sides, touches-not, passing-none, Passes, unbroken-runs, unbroken-map, Stretched, stretched-unbroken}
 use Rattle.schedule.proofs.StretchLaws.{interval-stretched, empty-stretched, stretch-is, touching-refused, stretch-refused}
 
 -- The first run that passes a test.
@@ -58,18 +58,30 @@ none-first test (run ∷ runs) e =
     (λ t. let q : some run ≡ none = rw t at e in let z : _≡_ {A = ℕ} 0 1 = cc in absurd (omega arith))
     (λ t. (t, none-first test runs (rw t at e)))
 
--- what an answer that is no refusal tells of the run found, or of none
-found-one : (answer : RunsAnswer) (o : Option Run) (run : Run) → foundBy answer o ≡ found.One run → o ≡ some run
-found-one checked.Accepted none run e = cc
-found-one checked.Accepted (some other) run e = cc
-found-one checked.TooMany o run e = cc
-found-one (checked.OutOfOrder index) o run e = cc
+-- what the answer on an accepted list tells of the run found, or of none
+found-one : (o : Option Run) (run : Run) → foundBy checked.Accepted o ≡ found.One run → o ≡ some run
+found-one none run e = cc
+found-one (some other) run e = cc
 
-found-none : (answer : RunsAnswer) (o : Option Run) → foundBy answer o ≡ found.None → o ≡ none
-found-none checked.Accepted none e = refl
-found-none checked.Accepted (some other) e = cc
-found-none checked.TooMany o e = cc
-found-none (checked.OutOfOrder index) o e = cc
+found-none : (o : Option Run) → foundBy checked.Accepted o ≡ found.None → o ≡ none
+found-none none e = refl
+found-none (some other) e = cc
+
+-- So on an accepted list a run is answered exactly where it stands at an index, passes, and none before it does;
+module _ (test : Run → Bool) (runs : List Run) (accepted : runsAnswer runs ≡ checked.Accepted) where
+  answered-run : (run : Run) → (foundBy (runsAnswer runs) (firstRun test runs) ≡ found.One run)
+      ↔ ((k : ℕ) × (k < length runs) × (getD runs k noRun ≡ run) × (test run ≡ true) × ((j : ℕ) → j < k → test (getD runs j noRun) ≡ false))
+  answered-run run = (
+    λ e. found-first test runs run (found-one (firstRun test runs) run (rw accepted at e)),
+    λ f. rw (accepted, first-some test runs (f .0) (f .1) (rw (f .2) (f .3)) (f .4)) (ap found.One (f .2)),
+  )
+
+  -- and none exactly where none passes
+  answered-none : (foundBy (runsAnswer runs) (firstRun test runs) ≡ found.None) ↔ All (λ run. test run ≡ false) runs
+  answered-none = (
+    λ e. none-first test runs (found-none (firstRun test runs) (rw accepted at e)),
+    λ a. rw (accepted, first-none test runs (λ k l. all-at (λ run. test run ≡ false) noRun runs k l a)),
+  )
 
 -- a run at an index is a member, and a member stands at an index
 at-member : (runs : List Run) (k : ℕ) (run : Run) → k < length runs → getD runs k noRun ≡ run → Any (λ other. other ≡ run) runs
@@ -83,11 +95,11 @@ member-at (other ∷ runs) run (inr m) = let r = member-at runs run m in let l =
 
 -- The run that holds a tick.
 
--- in order, two runs that hold a tick are one
-pub at-most-one : (runs : List Run) → noneEmpty runs ≡ true → inOrder runs ≡ true → (tick i k : ℕ) → i < length runs → k < length runs
+-- of an accepted list, two runs that hold a tick are one
+at-most-one : (runs : List Run) → runsAnswer runs ≡ checked.Accepted → (tick i k : ℕ) → i < length runs → k < length runs
     → runHolds (getD runs i noRun) tick ≡ true → runHolds (getD runs k noRun) tick ≡ true → i ≡ k
-at-most-one runs ne io tick i k l m e f =
-    let o = judge-order runs .1 (ne, io) in
+at-most-one runs accepted tick i k l m e f =
+    let o = accepted-order runs accepted in
     let p = run-holds (getD runs i noRun) tick e in
     let q = run-holds (getD runs k noRun) tick f in
     elim (decLt i k) [
@@ -95,60 +107,72 @@ at-most-one runs ne io tick i k l m e f =
       | no s ↦ elim (decLt k i) [ yes r ↦ absurd (omega (arith, ends-before runs o k i r l)) | no r ↦ omega arith ]
     ]
 
--- the run that is answered is a member that holds the tick,
-pub found-holds : (runs : List Run) (tick : ℕ) (run : Run) → runAtTick runs tick ≡ found.One run
-    → (runHolds run tick ≡ true) × Any (λ other. other ≡ run) runs
+-- so the first that holds it is the only one: what the answer means
+pub holds-tick : (runs : List Run) (tick : ℕ) (answer : Found) → answer ≡ runAtTick runs tick → HoldsTick runs tick answer
 unfolding runAtTick
-found-holds runs tick run e =
-    let holds : Run → Bool = λ other. runHolds other tick in
-    let f = found-first holds runs run (found-one (runsAnswer runs) (firstRun holds runs) run e) in
-    (f .3, at-member runs (f .0) run (f .1) (f .2))
-
--- where none is answered, none holds it,
-pub none-holds : (runs : List Run) (tick : ℕ) → runAtTick runs tick ≡ found.None → All (λ run. runHolds run tick ≡ false) runs
-unfolding runAtTick
-none-holds runs tick e =
+holds-tick runs tick answer is accepted =
     let holds : Run → Bool = λ run. runHolds run tick in
-    none-first holds runs (found-none (runsAnswer runs) (firstRun holds runs) e)
+    let single = at-most-one runs accepted tick in
+    rw is
+    (record {
+      run-is = λ run. (
+        λ e. let f = answered-run holds runs accepted run .0 e in (at-member runs (f .0) run (f .1) (f .2), f .3),
+        λ m.
+            let r = member-at runs run (m .0) in
+            let k = r .0 in
+            let here : runHolds (getD runs k noRun) tick ≡ true = rw (r .2) (m .1) in
+            answered-run holds runs accepted run .1 (
+              k,
+              r .1,
+              r .2,
+              m .1,
+              λ j l.
+                  let in-list = r .1 in
+                  cases (runHolds (getD runs j noRun) tick)
+                  (λ t. absurd (omega (arith, single j k (omega arith) in-list t here)))
+                  (λ t. t),
+            ),
+      );
+      none-is = answered-none holds runs accepted;
+      alone = single;
+    })
 
--- and of an accepted list every member that holds the tick is the run that is answered
-pub at-only : (runs : List Run) (tick : ℕ) (run : Run) → runsAnswer runs ≡ checked.Accepted → Any (λ other. other ≡ run) runs
-    → runHolds run tick ≡ true → runAtTick runs tick ≡ found.One run
-unfolding runAtTick
-at-only runs tick run accepted m e =
-    let order = accepted-ordered runs accepted in
-    let r = member-at runs run m in
-    let k = r .0 in
-    let here : runHolds (getD runs k noRun) tick ≡ true = rw (r .2) e in
-    let alone : (j : ℕ) → j < k → runHolds (getD runs j noRun) tick ≡ false =
-    λ j l.
-    let in-list = r .1 in
-    cases (runHolds (getD runs j noRun) tick)
-    (λ t. absurd (omega (arith, at-most-one runs (order .0) (order .1) tick j k (omega arith) in-list t here)))
-    (λ t. t) in
-    rw (accepted, first-some (λ other. runHolds other tick) runs k (r .1) here alone) (ap found.One (r .2))
-
--- The first run that starts at a tick or after it.
-
--- it is at an index, and every run before it starts before the tick
-pub from-first : (runs : List Run) (tick : ℕ) (run : Run) → runFromTick runs tick ≡ found.One run
-    → (k : ℕ) × (k < length runs) × (getD runs k noRun ≡ run) × (tick ≤ run .start) × ((j : ℕ) → j < k → getD runs j noRun .start < tick)
+-- The first run that starts at a tick or after it: what the answer means.
+pub first-from : (runs : List Run) (tick : ℕ) (answer : Found) → answer ≡ runFromTick runs tick → FirstFrom runs tick answer
 unfolding runFromTick
-from-first runs tick run e =
-    let f = found-first (startsFrom tick) runs run (found-one (runsAnswer runs) (firstRun (startsFrom tick) runs) run e) in
-    (f .0, f .1, f .2, leb-true tick (run .start) (f .3), λ j l. leb-false tick (getD runs j noRun .start) (f .4 j l))
-
--- where none is answered, every run starts before the tick
-pub from-none : (runs : List Run) (tick : ℕ) → runFromTick runs tick ≡ found.None → All (λ run. run .start < tick) runs
-unfolding runFromTick
-from-none runs tick e =
-    all-map (λ run. startsFrom tick run ≡ false) (λ run. run .start < tick) runs (λ run f. leb-false tick (run .start) f)
-    (none-first (startsFrom tick) runs (found-none (runsAnswer runs) (firstRun (startsFrom tick) runs) e))
+first-from runs tick answer is accepted =
+    let from = startsFrom tick in
+    rw is
+    (record {
+      run-is = λ run. (
+        λ e.
+            let f = answered-run from runs accepted run .0 e in
+            record {
+              index = f .0;
+              within = f .1;
+              there = f .2;
+              starts-from = leb-true tick (run .start) (f .3);
+              starts-before = λ k l. leb-false tick (getD runs k noRun .start) (f .4 k l);
+            },
+        λ f.
+            answered-run from runs accepted run .1 (
+              f .index,
+              f .within,
+              f .there,
+              le-leb tick (run .start) (f .starts-from),
+              λ k l. lt-leb tick (getD runs k noRun .start) (f .starts-before k l),
+            ),
+      );
+      none-is = (
+        λ e. all-map (λ run. from run ≡ false) (λ run. run .start < tick) runs (λ run. leb-false tick (run .start)) (answered-none from runs accepted .0 e),
+        λ a. answered-none from runs accepted .1 (all-map (λ run. run .start < tick) (λ run. from run ≡ false) runs (λ run. lt-leb tick (run .start)) a),
+      );
+    })
 
 -- The runs that share a tick with an interval.
 
--- a run does exactly where some tick of the interval is one that it holds
-pub touches-exactly : (a b : ℕ) (run : Run) → (touches a b run ≡ true) ↔ ((tick : ℕ) × (a ≤ tick) × (tick < b) × (runHolds run tick ≡ true))
+-- a run passes the test exactly where some tick of the interval is one that it holds
+touches-exactly : (a b : ℕ) (run : Run) → (touches a b run ≡ true) ↔ SharesTick a b run
 touches-exactly a b run = (
   λ e.
       let s = touches-sides a b run .0 e in
@@ -186,11 +210,13 @@ touching-part runs a b first count accepted s =
     rw accepted
     (unbroken-runs (touches a b) runs (take count (drop first runs)) (stretched-unbroken (touches a b) runs first count s))
 
--- so they are one unbroken part of it, nothing left out and nothing added
-pub touching-unbroken : (runs : List Run) (a b : ℕ) → runsAnswer runs ≡ checked.Accepted → Unbroken (touches a b) runs (touching runs a b)
+-- so they are one unbroken part of it: each of them shares a tick with the interval, and none of the others does
+pub touching-unbroken : (runs : List Run) (a b : ℕ) → TouchingPart a b runs (touching runs a b)
 touching-unbroken runs a b accepted =
     let s = stands runs a b accepted in
-    rw (touching-part runs a b (s .0) (s .1) accepted (s .2)) (stretched-unbroken (touches a b) runs (s .0) (s .1) (s .2))
+    rw (touching-part runs a b (s .0) (s .1) accepted (s .2))
+    (unbroken-map (Passes (touches a b)) (SharesTick a b) runs (take (s .1) (drop (s .0) runs)) (touches-exactly a b)
+    (stretched-unbroken (touches a b) runs (s .0) (s .1) (s .2)))
 
 -- the stretch that the query answers is empty where there are none, and else where they stand
 stretch-cases : (runs : List Run) (a b : ℕ) (P : Stretch → Type 0) → (touching runs a b ≡ [] → P (record { first = 0; runs = 0 }))

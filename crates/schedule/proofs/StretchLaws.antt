@@ -15,6 +15,7 @@ use Rattle.base.specs.Lowest.{lowest}
 use Rattle.base.specs.Members.{All}
 use Rattle.base.proofs.TestLaws.{cases, both-absurd}
 use Rattle.base.proofs.LowestLaws.{before, passes, lowest-bound, lowest-least}
+use Rattle.base.proofs.MemberLaws.{all-map}
 use Rattle.schedule.specs.declared.Run.{Run}
 use Rattle.schedule.specs.declared.RunsAnswer.the-variants as checked
 use Rattle.schedule.specs.Runs.{noRun}
@@ -62,17 +63,39 @@ unfolding runsThat
 passing-all test [] h = refl
 passing-all test (run ∷ runs) h = rw (h .0, passing-all test runs (h .1))
 
+-- the run passes a test
+abbrev pub Passes : (Run → Bool) → Run → Type 0
+Passes test run = test run ≡ true
+
 -- an unbroken part is the runs that pass
-pub unbroken-runs : (test : Run → Bool) (runs part : List Run) → Unbroken test runs part → runsThat test runs ≡ part
+pub unbroken-runs : (test : Run → Bool) (runs part : List Run) → Unbroken (Passes test) runs part → runsThat test runs ≡ part
 unbroken-runs test runs part u =
     ap (runsThat test) (u .whole)
     ∙ (passing-append test (u .before) (part ++ u .behind)
     ∙ rw (
-      passing-none test (u .before) (u .left-out .0),
+      passing-none test (u .before) (failing (u .before) (u .left-out .0)),
       passing-append test part (u .behind),
       passing-all test part (u .inside),
-      passing-none test (u .behind) (u .left-out .1),
+      passing-none test (u .behind) (failing (u .behind) (u .left-out .1)),
     ) (append-nil part))
+  where
+    failing : (others : List Run) → All (λ run. Passes test run → ⊥) others → All (λ run. test run ≡ false) others
+    failing others =
+        all-map (λ run. Passes test run → ⊥) (λ run. test run ≡ false) others (λ run h. cases (test run) (λ e. absurd (h e)) (λ e. e))
+
+-- what is said of the runs of an unbroken part may be said in other words
+pub unbroken-map : (P Q : Run → Type 0) (runs part : List Run) → ((run : Run) → P run ↔ Q run) → Unbroken P runs part → Unbroken Q runs part
+unbroken-map P Q runs part same u =
+    record {
+      before = u .before;
+      behind = u .behind;
+      whole = u .whole;
+      inside = all-map P Q part (λ run. same run .0) (u .inside);
+      left-out = (rest (u .before) (u .left-out .0), rest (u .behind) (u .left-out .1));
+    }
+  where
+    rest : (others : List Run) → All (λ run. P run → ⊥) others → All (λ run. Q run → ⊥) others
+    rest others = all-map (λ run. P run → ⊥) (λ run. Q run → ⊥) others (λ run h q. h (same run .1 q))
 
 -- The runs that pass a test are those at `count` indices from `first` on.
 pub record Stretched (test : Run → Bool) (runs : List Run) (first count : ℕ) : Type 0 where
@@ -83,7 +106,7 @@ pub record Stretched (test : Run → Bool) (runs : List Run) (first count : ℕ)
 
 module _ (test : Run → Bool) (runs : List Run) (first count : ℕ) (s : Stretched test runs first count) where
   -- so they are one unbroken part of the list
-  pub stretched-unbroken : Unbroken test runs (take count (drop first runs))
+  pub stretched-unbroken : Unbroken (Passes test) runs (take count (drop first runs))
   stretched-unbroken =
       let part = take count (drop first runs) in
       let rest : part ++ drop (first + count) runs ≡ drop first runs = rw (← drop-drop count first runs) (take-append-drop count (drop first runs)) in
@@ -91,16 +114,17 @@ module _ (test : Run → Bool) (runs : List Run) (first count : ℕ) (s : Stretc
         before = take first runs;
         behind = drop (first + count) runs;
         whole = sym (rw rest (take-append-drop first runs));
-        inside = all-indices (λ run. test run ≡ true) part (λ k l.
+        inside = all-indices (Passes test) part (λ k l.
             let m : k < count = omega (arith, length-take count (drop first runs)) in
             rw (getD-take count (drop first runs) k noRun m, getD-drop first runs k noRun) (s .inside (first + k) (omega arith) (omega arith)));
         left-out = (
-          all-indices (λ run. test run ≡ false) (take first runs) (λ k l.
+          all-indices (λ run. Passes test run → ⊥) (take first runs) (λ k l e.
               let m : k < first = omega (arith, length-take first runs) in
-              rw (getD-take first runs k noRun m) (s .before k m)),
-          all-indices (λ run. test run ≡ false) (drop (first + count) runs) (λ k l.
-              rw (getD-drop (first + count) runs k noRun)
-              (s .behind (first + count + k) (omega arith) (omega (arith, length-drop (first + count) runs)))),
+              both-absurd (test (getD (take first runs) k noRun)) e (rw (getD-take first runs k noRun m) (s .before k m))),
+          all-indices (λ run. Passes test run → ⊥) (drop (first + count) runs) (λ k l e.
+              both-absurd (test (getD (drop (first + count) runs) k noRun)) e
+              (rw (getD-drop (first + count) runs k noRun)
+              (s .behind (first + count + k) (omega arith) (omega (arith, length-drop (first + count) runs))))),
         );
       }
 

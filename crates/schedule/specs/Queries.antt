@@ -1,15 +1,16 @@
 -- Queries of a run list, whoever made it: the run at a tick, the first run that starts at or after a tick, and the runs that share a tick with an interval.
 -- What the check refuses, they refuse.
-use Prim.Native.Nat.{ℕ}
+use Prim.Native.Nat.{ℕ, _≤_, _<_}
 use mathlib.Core.List.{List, [], _∷_, _++_}
 use mathlib.Core.Path.{_≡_}
+use mathlib.Core.Logic.{_↔_}
 use mathlib.Core.Bool.{Bool, true, false}
 use mathlib.Core.Option.{Option, none, some}
 use lib.Dec.{leb, ltb, eqb}
 use lib.ListN.{length, getD}
 use Rattle.base.specs.Tests.{pick}
 use Rattle.base.specs.Lowest.{lowest}
-use Rattle.base.specs.Members.{All}
+use Rattle.base.specs.Members.{All, Any}
 use Rattle.schedule.specs.declared.Run.{Run}
 use Rattle.schedule.specs.declared.RunsAnswer.{RunsAnswer}
 use Rattle.schedule.specs.declared.RunsAnswer.the-variants as checked
@@ -71,9 +72,44 @@ foundRun found.None = noRun
 foundRun found.TooMany = noRun
 foundRun (found.OutOfOrder index) = noRun
 
+-- What the two answers mean.
+
+-- a run is answered for a tick exactly where it is a member that holds the tick, none exactly where no member does, and runs at two indices never both
+-- hold the tick
+pub record HolderAnswered (runs : List Run) (tick : ℕ) (answer : Found) : Type 0 where
+  pub run-is : (run : Run) → (answer ≡ found.One run) ↔ (Any (λ other. other ≡ run) runs × (runHolds run tick ≡ true))
+  pub none-is : (answer ≡ found.None) ↔ All (λ run. runHolds run tick ≡ false) runs
+  pub alone : (i k : ℕ) → i < length runs → k < length runs
+      → runHolds (getD runs i noRun) tick ≡ true → runHolds (getD runs k noRun) tick ≡ true → i ≡ k
+
+-- so it is where the check accepts the list
+abbrev pub HoldsTick : List Run → ℕ → Found → Type 0
+HoldsTick runs tick answer = runsAnswer runs ≡ checked.Accepted → HolderAnswered runs tick answer
+
+-- a run is the first from a tick on: it stands at an index of the list and starts at the tick or after it, and every run before it starts before the tick
+pub record IsFirstFrom (runs : List Run) (tick : ℕ) (run : Run) : Type 0 where
+  pub index : ℕ
+  pub within : index < length runs
+  pub there : getD runs index noRun ≡ run
+  pub starts-from : tick ≤ run .start
+  pub starts-before : (k : ℕ) → k < index → getD runs k noRun .start < tick
+
+-- a run is answered exactly where it is the first from the tick on, none exactly where every run starts before the tick
+pub record FirstAnswered (runs : List Run) (tick : ℕ) (answer : Found) : Type 0 where
+  pub run-is : (run : Run) → (answer ≡ found.One run) ↔ IsFirstFrom runs tick run
+  pub none-is : (answer ≡ found.None) ↔ All (λ run. run .start < tick) runs
+
+-- so it is where the check accepts the list
+abbrev pub FirstFrom : List Run → ℕ → Found → Type 0
+FirstFrom runs tick answer = runsAnswer runs ≡ checked.Accepted → FirstAnswered runs tick answer
+
 -- The query for an interval.
 
--- the run shares a tick with the interval from a to b: the ticks that it shares are not none
+-- the run shares a tick with the interval from a to b: some tick of the interval is one that the run holds
+abbrev pub SharesTick : ℕ → ℕ → Run → Type 0
+SharesTick a b run = (tick : ℕ) × (a ≤ tick) × (tick < b) × (runHolds run tick ≡ true)
+
+-- the test for it: the ticks that the run shares with the interval are not none
 abbrev pub touches : ℕ → ℕ → Run → Bool
 touches a b run = ltb 0 (shared a b run)
 
@@ -92,14 +128,15 @@ stretchOf runs a b =
     pick (eqb (length (touching runs a b)) 0) (record { first = 0; runs = 0 })
     (record { first = lowest (λ k. touches a b (getD runs k noRun)) (length runs); runs = length (touching runs a b) })
 
--- a part of a list is one unbroken stretch of it: what stands before it and what stands behind it make up the rest, and none of the rest passes the test
-pub record Unbroken (test : Run → Bool) (runs part : List Run) : Type 0 where
+-- a part of a list is one unbroken stretch of it: what stands before it and what stands behind it make up the rest, each run of the part is P, and none of the
+-- rest is
+pub record Unbroken (P : Run → Type 0) (runs part : List Run) : Type 0 where
   pub before : List Run
   pub behind : List Run
   pub whole : runs ≡ before ++ (part ++ behind)
-  pub inside : All (λ run. test run ≡ true) part
-  pub left-out : All (λ run. test run ≡ false) before × All (λ run. test run ≡ false) behind
+  pub inside : All P part
+  pub left-out : All (λ run. P run → ⊥) before × All (λ run. P run → ⊥) behind
 
--- the runs answered for an interval are one unbroken stretch of a list that is accepted, nothing left out and nothing added
+-- the runs answered for an interval are one unbroken stretch of a list that is accepted: each shares a tick with the interval, and none of the others does
 abbrev pub TouchingPart : ℕ → ℕ → List Run → List Run → Type 0
-TouchingPart a b runs part = runsAnswer runs ≡ checked.Accepted → Unbroken (touches a b) runs part
+TouchingPart a b runs part = runsAnswer runs ≡ checked.Accepted → Unbroken (SharesTick a b) runs part

@@ -1,7 +1,8 @@
 -- `console::print_now` meets its contract: the lists lent for planning are long enough for every table, and after a reply of 0 the columns
 -- hold the runs that are looked at.
-use Prim.Native.Nat.{_≤_}
+use Prim.Native.Nat.{ℕ, _≤_}
 use mathlib.Core.Path.{_≡_, sym, _∙_}
+use mathlib.Core.List.{List}
 use native.Mathlib.Omega.{arith}
 use lib.ListN.{length}
 use lib.Seq.{length-take-le}
@@ -11,9 +12,9 @@ use Rattle.plans.specs.Planning.{LentLists, listsFor}
 use Rattle.plans.specs.Demands.{runsIn}
 use Rattle.plans.proofs.ReplyLaws.{Replied}
 use Rattle.printed_plan.specs.Printing.{longReply}
-use Rattle.printed_plan.specs.NowText.{nowLines, nowText}
+use Rattle.printed_plan.specs.NowText.{nowLines, nowText, PlanAccepted}
 use Rattle.printed_plan.proofs.TextLaws.{refusal-length, runs-fit, print-clauses, print-none}
-use Rattle.printed_plan.proofs.NowLaws.{now-length, now-refused, now-planned}
+use Rattle.printed_plan.proofs.NowLaws.{now-length, now-refused, now-planned, plan-accepted}
 use Rattle.console.proofs.print_now.Statement.{statement}
 use Rattle.console.proofs.print_now.Tie as tie
 
@@ -53,8 +54,12 @@ lengths c = omega (arith, c .plan .kept)
 few : (c : tie.Else2) → planned (c .before) .plan .result .runs ≤ maxPlanRuns
 few c = runs-fit _ _ _ _ _ (replied (planned (c .before))) (c .if2 .left)
 
+-- the clauses of printing, and beside them that the check accepts the runs of the plan
+and-accepted : {A B : Type 0} (launch : ℕ) (file : List ℕ) → A × B → A × (B × PlanAccepted launch file)
+and-accepted launch file p = (p .0, (p .1, plan-accepted launch file))
+
 returns : tie.Need-returns
-returns c = print-none _ _ (c .if1 .taken)
+returns c = and-accepted _ _ (print-none _ _ (c .if1 .taken))
 
 slice-aggregate-plan : tie.Need-slice-aggregate-plan
 slice-aggregate-plan c = search needs
@@ -85,9 +90,10 @@ returns-2 c =
     let refused = c .before .before .before .before in
     let plan = planned (refused .before) in
     let args = start plan .args in
-    print-clauses _ _ _ _ _ (plan .before .before .before .before .before .if1 .left)
+    and-accepted (args .launch) (args .file .now)
+    (print-clauses _ _ _ _ _ (plan .before .before .before .before .before .if1 .left)
     (now-refused (args .launch) (args .tick) (args .span) (args .file .now) (plan .plan .result) (long plan) (refused .if2 .taken))
-    (c .before .before .put-refusal .ensures)
+    (c .before .before .put-refusal .ensures))
 
 array-share-prefix-starts : tie.Need-array-share-prefix-starts
 array-share-prefix-starts c = omega (arith, lengths (planned (c .before .before)), few (c .before))
@@ -137,7 +143,8 @@ returns-3 : tie.Need-returns-3
 returns-3 c =
     let taken = c .before .before .before .before .before .before .before in
     let plan = planned (taken .before) in
-    print-clauses _ _ _ _ _ (plan .before .before .before .before .before .if1 .left) (text taken) (c .before .before .put-now .ensures)
+    and-accepted _ _
+    (print-clauses _ _ _ _ _ (plan .before .before .before .before .before .if1 .left) (text taken) (c .before .before .put-now .ensures))
 
 pub print-now-spec : {M : Type 1} → statement M
 print-now-spec =

@@ -74,7 +74,7 @@ returns-3 c =
     let launch = tick .before .before in
     let text = c .before .before .print-now .ensures in
     now-clauses _ _ _ _ _ _ _ (launch .before .if2 .left) (launch .launch-in .ensures) (tick .launch-in2 .ensures) (span .launch-in3 .ensures)
-    (text .0) (text .1)
+    (text .0) (text .1 .0)
 
 pub print-now-input-spec : {M : Type 1} → statement M
 print-now-input-spec =

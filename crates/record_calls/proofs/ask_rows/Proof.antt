@@ -41,7 +41,7 @@ use denote.Exit.{yes}
 use Rattle.records.proofs.Walking.{spot, value}
 use Rattle.records.specs.RecordColumns.{heldRuns, columnsOf}
 use Rattle.schedule.specs.RunCheck.{runsAnswer}
-use Rattle.schedule.specs.Queries.{runAtTick, runFromTick, touching as touchingRuns, TouchingPart}
+use Rattle.schedule.specs.Queries.{runAtTick, runFromTick, HoldsTick, FirstFrom, touching as touchingRuns, TouchingPart}
 use Rattle.schedule.specs.BusyCount.{busyReply, CountsTicks}
 use Rattle.schedule.specs.declared.Run.{Run}
 use Rattle.schedule.proofs.Run as mRun
@@ -203,12 +203,12 @@ module _ {M : Type 1} (𝓤 : URA M) (H : Heap 𝓤) (A : Atoms 𝓤) (W : Given
         land ! (spot !) (init ! 17 refl (EL.lawful mRunsAnswer.the-type mRunsAnswer′.the-laws 𝓤 H A W tt .typed y₁ _ is₁ .0)) $
         asks-list ! framed run-at.ended (run-at.clauses 𝓤 H A at-mem run) (known .runs-at) (to-tick α r v) α r v
         (asked 𝓤 H A W α r v (u32 ∷ []) (tick, tt) (vint w32 tick ∷ [], tt) (one-number gt)) (id⊢ 𝓤 _)
-        (λ y. y ≡ runAtTick (r .now) tick) (λ y e. id⊢ 𝓤 _)
+        (λ y. y ≡ runAtTick (r .now) tick) (λ y e. fst∗ 𝓤 (fact 𝓤 (y ≡ runAtTick (r .now) tick)) (fact 𝓤 (HoldsTick (r .now) tick y)))
         (and-then ! (value ! 19 refl) (and-then ! (value ! 26 refl) (no-more !))) (λ w₂ y₂ e₂ is₂. drop ! $
         land ! (spot !) (init ! 15 refl (EL.lawful mFound.the-type mFound′.the-laws 𝓤 H A W tt .typed y₂ _ is₂ .0)) $
         asks-list ! framed run-from.ended (run-from.clauses 𝓤 H A at-mem run) (known .runs-from) (to-tick α r v) α r v
         (asked 𝓤 H A W α r v (u32 ∷ []) (tick, tt) (vint w32 tick ∷ [], tt) (one-number gt)) (id⊢ 𝓤 _)
-        (λ y. y ≡ runFromTick (r .now) tick) (λ y e. id⊢ 𝓤 _)
+        (λ y. y ≡ runFromTick (r .now) tick) (λ y e. fst∗ 𝓤 (fact 𝓤 (y ≡ runFromTick (r .now) tick)) (fact 𝓤 (FirstFrom (r .now) tick y)))
         (and-then ! (value ! 19 refl) (and-then ! (value ! 26 refl) (no-more !))) (λ w₃ y₃ e₃ is₃. drop ! $
         land ! (spot !) (init ! 13 refl (EL.lawful mFound.the-type mFound′.the-laws 𝓤 H A W tt .typed y₃ _ is₃ .0)) $
         asks-list ! framed busy.ended (busy.clauses 𝓤 H A at-mem run) (known .counts) (to-interval α r v) α r v
