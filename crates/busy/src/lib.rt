@@ -10,18 +10,19 @@ use schedule::Run;
 use schedule::RunsAnswer;
 
 // The ticks that the run from `start` to `end` shares with the interval from `a` to `b`.
-fn shared_ticks(start: u32, end: u32, a: u32, b: u32) -> u64
+fn shared_ticks(start: u32, end: u32, a: u32, b: u32) -> u32
     ensures { λ r. ⌜ r ≡ shared a b (record { start = start; end = end; task = 0 }) ⌝ }
 {
     let first = if start < a { a } else { start };
     let last = if end < b { end } else { b };
     if first < last {
-        return (last - first) as u64;
+        return last - first;
     }
     0
 }
 
-// The busy count over runs that stand in three columns of one length.
+// The busy count over runs that stand in three columns of one length. The sum of an accepted list is no more than the interval's ticks, so 32 bits hold it
+// while it is taken, and the compiler adds several runs at a time.
 pub fn busy_columns(starts: &[u32], ends: &[u32], tasks: &[u32], a: u32, b: u32) -> Busy
     requires { ⌜ (length (now starts) ≡ length (now ends)) × (length (now starts) ≡ length (now tasks)) ⌝ }
     ensures { λ r. ⌜ r ≡ busyReply (runsOf (now (starts .entry)) (now (ends .entry)) (now (tasks .entry))) a b ⌝ }
@@ -34,7 +35,7 @@ pub fn busy_columns(starts: &[u32], ends: &[u32], tasks: &[u32], a: u32, b: u32)
             ticks: 0,
         };
     };
-    let mut ticks: u64 = 0;
+    let mut ticks: u32 = 0;
     let mut i: usize = 0;
     while i < starts.len() {
         ticks += shared_ticks(starts[i], ends[i], a, b);
@@ -43,7 +44,7 @@ pub fn busy_columns(starts: &[u32], ends: &[u32], tasks: &[u32], a: u32, b: u32)
     Busy {
         number: 0,
         place: 0,
-        ticks,
+        ticks: ticks as u64,
     }
 }
 

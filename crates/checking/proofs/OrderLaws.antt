@@ -11,13 +11,14 @@ use denote.Enum.Declared.{tagOf}
 use borrow.Author.Tests.{ltb-false, lt-ltb, le-ltb}
 use Rattle.base.specs.Limits.{maxRuns}
 use Rattle.base.specs.Tests.{or}
-use Rattle.base.specs.Lowest.{lowest}
+use Rattle.base.specs.Lowest.{lowest, someBelow}
 use Rattle.base.proofs.TestLaws.{or-true}
 use Rattle.base.proofs.LowestLaws.{same}
 use Rattle.schedule.specs.declared.RunsAnswer.{RunsAnswer}
 use Rattle.schedule.specs.declared.RunsAnswer.the-variants as checked
 use Rattle.schedule.specs.Runs.{tooMany, runsOf}
 use Rattle.schedule.specs.RunCheck.{previousEnd, outOfOrder, firstOutOfOrder, runsAnswer, runsAccepted}
+use Rattle.checking.specs.SomeBroken.{anyOutOfOrder}
 use Rattle.schedule.proofs.RunsAnswer.{the-type}
 use Rattle.schedule.proofs.ColumnLaws.{columns-length, start-at, end-at}
 use Rattle.schedule.proofs.CheckLaws.{accepted-known}
@@ -50,6 +51,12 @@ module _ (starts ends : List ℕ) (k : ℕ) where
   unfolding broken
   broken-not h l = rw (lt-ltb (getD starts k 0) (getD ends k 0) h, le-ltb (getD starts k 0) (endBefore ends k) l)
 
+  -- it is the test of the run's numbers and the end before it
+  pub broken-tested : (previous : ℕ) → previous ≡ endBefore ends k
+      → or (not (ltb (getD starts k 0) (getD ends k 0))) (ltb (getD starts k 0) previous) ≡ broken starts ends k
+  unfolding broken
+  broken-tested previous e = rw e
+
 module _ (starts ends tasks : List ℕ) where
   -- the end before an index of the list is that of the columns
   before-at : (k : ℕ) → k < length starts → previousEnd (runsOf starts ends tasks) k ≡ endBefore ends k
@@ -62,6 +69,11 @@ module _ (starts ends tasks : List ℕ) where
   broken-first =
       rw (columns-length starts ends tasks)
       (same (broken starts ends) (outOfOrder (runsOf starts ends tasks)) (length starts) (λ k l. rw (start-at starts ends tasks k l, end-at starts ends tasks k l, before-at k l)))
+
+  -- whether some index is
+  pub broken-some : someBelow (broken starts ends) (length starts) ≡ anyOutOfOrder (runsOf starts ends tasks)
+  unfolding someBelow firstOutOfOrder
+  broken-some = rw (broken-first, columns-length starts ends tasks)
 
   -- the columns of an accepted list are not too long
   module _ (accepted : runsAnswer (runsOf starts ends tasks) ≡ checked.Accepted) where

@@ -1,5 +1,5 @@
 -- `busy::busy_columns` meets its contract: what the check refuses, or the sum. The loop's invariant: the ticks counted and the sum over the runs that are
--- left are together the sum over all runs. No sum wraps: there are at most 4,096 runs, and each shares at most 2 ^ 32 ticks.
+-- left are together the sum over all runs. No sum wraps: the sum over an accepted list is at most the interval's ticks.
 use Prim.Native.Nat.{ℕ, _+_, _*_, _^_, _-_, _≤_, _<_}
 use mathlib.Core.Path.{_≡_, _∙_, sym}
 use mathlib.Core.Bool.{false}
@@ -16,6 +16,7 @@ use Rattle.schedule.specs.declared.RunsAnswer.the-variants as checked
 use Rattle.schedule.specs.Runs.{runAt, runsOf}
 use Rattle.schedule.specs.RunCheck.{runsAnswer, runsNumber, runsPlace, runsAccepted}
 use Rattle.schedule.specs.BusyCount.{shared, busySum, busyReply}
+use Rattle.schedule.proofs.BusyLaws.{sum-most}
 use Rattle.checking.proofs.OrderLaws.{told-refused, columns-few}
 use Rattle.busy.proofs.busy_columns.Statement.{statement}
 use Rattle.busy.proofs.busy_columns.Tie as tie
@@ -66,7 +67,7 @@ Inv-loop starts ends tasks a b ticks₀ i₀ ticks i =
     (i ≤ length starts)
     × (length starts ≤ maxRuns)
     × (length starts ≡ length ends)
-    × (ticks ≤ i * 2 ^ 32)
+    × (busySum a b (runsOf starts ends tasks) ≤ b - a)
     × Counted starts ends tasks a b ticks i
 
 abbrev μ-loop : tie.MeasureT-loop
@@ -97,8 +98,13 @@ returns c =
     (c .before .number .ensures) (c .place .ensures)
 
 loop-holds : tie.Need-loop-holds Inv-loop μ-loop
-loop-holds c =
-    (omega arith, columns-few _ _ _ (accepted c), c .before .before .before .before .before .before .pre .0, omega arith, sum-start _ _ _ _ _)
+loop-holds c = (
+  omega arith,
+  columns-few _ _ _ (accepted c),
+  c .before .before .before .before .before .before .pre .0,
+  sum-most _ (accepted c) _ _,
+  sum-start _ _ _ _ _,
+)
 
 mul-shared-ticks : tie.Need-mul-shared-ticks Inv-loop μ-loop
 mul-shared-ticks c = omega arith
@@ -116,8 +122,9 @@ shared-ticks-requires : tie.Need-shared-ticks-requires Inv-loop μ-loop
 shared-ticks-requires c κs = search needs
 
 add-ticks : tie.Need-add-ticks Inv-loop μ-loop
-unfolding shared
-add-ticks c = omega arith
+add-ticks c =
+    let inv = c .before .before .before .before .loop .inv in
+    omega (arith, sum-step _ _ _ _ _ _ _ _ (omega arith) (c .shared-ticks .ensures) (inv .4))
 
 add-i : tie.Need-add-i Inv-loop μ-loop
 add-i c = omega arith
@@ -126,10 +133,12 @@ loop-less : tie.Need-loop-less Inv-loop μ-loop
 loop-less c = omega arith
 
 loop-again : tie.Need-loop-again Inv-loop μ-loop
-unfolding shared
 loop-again c =
     let inv = c .before .before .before .before .loop .inv in
-    (omega arith, inv .1, inv .2, omega arith, sum-step _ _ _ _ _ _ _ _ (omega arith) (c .shared-ticks .ensures) (inv .4))
+    (omega arith, inv .1, inv .2, inv .3, sum-step _ _ _ _ _ _ _ _ (omega arith) (c .shared-ticks .ensures) (inv .4))
+
+cast-t19 : tie.Need-cast-t19 Inv-loop μ-loop
+cast-t19 c = search needs
 
 returns-2 : tie.Need-returns-2 Inv-loop μ-loop
 returns-2 c =
@@ -157,4 +166,5 @@ busy-columns-spec =
     add-i
     loop-less
     loop-again
+    cast-t19
     returns-2)

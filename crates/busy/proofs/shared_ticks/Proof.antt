@@ -9,9 +9,6 @@ use Rattle.busy.proofs.shared_ticks.Tie as tie
 sub-result : tie.Need-sub-result
 sub-result c = search needs
 
-cast-result : tie.Need-cast-result
-cast-result c = search needs
-
 returns : tie.Need-returns
 unfolding shared
 returns c =
@@ -27,4 +24,4 @@ returns-2 c =
     (c .before .before .if1 .came)
 
 pub shared-ticks-spec : {M : Type 1} → statement M
-shared-ticks-spec = tie.close (tie.spec sub-result cast-result returns returns-2)
+shared-ticks-spec = tie.close (tie.spec sub-result returns returns-2)
