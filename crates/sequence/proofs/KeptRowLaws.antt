@@ -34,7 +34,7 @@ use Rattle.sequence.proofs.OrderRowLaws.{next-beyond, most-beyond, earl
 use Rattle.sequence.proofs.WalkLaws.{same-from}
 use Rattle.sequence.proofs.BesideLaws.{beside-below, beside-huge, beside-most, bound-is, sum-cons, keep-is, row-is}
 use Rattle.sequence.proofs.OrderChoiceLaws.{order-rows, order-keeps, most-worth}
-use Rattle.sequence.specs.KeptRows.{allRowPlaces, earliestOf, marksBack, beside, nextRow, keptBeside, boundBeside, numbersFrom, Blank, RowsKept, RowPut}
+use Rattle.sequence.specs.KeptRows.{earliestOf, marksBack, beside, nextRow, keptBeside, boundBeside, numbersFrom, RoomFor, Blank, RowsKept, RowPut}
 
 -- no deadline of bounded jobs is huge
 from-small : (at : ℕ → Job) (count : ℕ) → ((k : ℕ) → k < count → Bounded (at k)) → (i : ℕ) → i ≤ count
@@ -43,9 +43,10 @@ from-small at count h i l =
     all-from (λ job. job .deadline < hugeTicks) at i (count - i) .1 (λ k a b. omega (arith, h k (omega arith) .deadline))
 
 -- The rows are built down to place i: those of the jobs from there on stand in their places, and the places of the others are huge.
-pub record Built (at : ℕ → Job) (count i : ℕ) (rows : List ℕ) (most mandatory : ℕ) : Type 0 where
+pub record Built (size : ℕ) (at : ℕ → Job) (count i : ℕ) (rows : List ℕ) (most mandatory : ℕ) : Type 0 where
   pub within-is : i ≤ count
-  pub length-is : length rows ≡ allRowPlaces
+  pub length-is : length rows ≡ size
+  pub room : RoomFor count size
   pub rows-kept : RowsKept at count i rows
   pub blank : (k : ℕ) → k < i → (v : ℕ) → v ≤ count → getD rows (rowPlaces * k + v) 0 ≡ hugeTicks
   pub most-is : most ≡ mostWorth countOne hugeTicks (jobsFrom at count i)
@@ -59,37 +60,39 @@ pub row-below : (at : ℕ → Job) (count i : ℕ) (rows : List ℕ) → RowsKep
 row-below at count i rows r k v l m n = rw (r .row k l m v n) (beside-most _ _)
 
 -- an array of one number throughout is blank
-pub blank-array : (size : ℕ) → Blank size (replicate size hugeTicks)
-blank-array size = record { length-is = length-replicate size hugeTicks; huge = λ k l. getD-replicate size k hugeTicks 0 l }
+pub blank-array : (size : ℕ) → Blank (replicate size hugeTicks)
+blank-array size k l = getD-replicate size k hugeTicks 0 (omega (arith, length-replicate size hugeTicks))
 
 -- the row of no job
-none-row : (rows : List ℕ) (count v : ℕ) → Blank allRowPlaces rows → count ≤ maxTasks → v ≤ count
+none-row : (rows : List ℕ) (count v : ℕ) → Blank rows → RoomFor count (length rows) → count ≤ maxTasks → v ≤ count
     → getD (set rows (rowPlaces * count) 0) (rowPlaces * count + v) 0 ≡ beside (mandatorySum []) (earliestOf [] v)
 unfolding earliest mandatorySum
-none-row rows count zero b m l =
+none-row rows count zero b room m l =
     let e : rowPlaces * count + 0 ≡ rowPlaces * count = omega arith in
-    rw (e, beside-below 0 0 (omega arith)) (getD-set-same rows (rowPlaces * count) 0 0 (omega (arith, b .length-is)))
-none-row rows count (suc v) b m l =
+    rw (e, beside-below 0 0 (omega arith)) (getD-set-same rows (rowPlaces * count) 0 0 (omega (arith, room .0)))
+none-row rows count (suc v) b room m l =
     rw (getD-set-other rows (rowPlaces * count) (rowPlaces * count + suc v) 0 0 (omega arith), beside-huge 0 hugeTicks (omega arith))
-    (b .huge (rowPlaces * count + suc v) (omega arith))
+    (b (rowPlaces * count + suc v) (omega (arith, room .0)))
 
 module _ (at : ℕ → Job) (count : ℕ) (small : count ≤ maxTasks) where
   -- only the row of no job stands there
-  pub built-start : (rows : List ℕ) → Blank allRowPlaces rows → Built at count count (set rows (rowPlaces * count) 0) 0 0
+  pub built-start : (rows : List ℕ) → Blank rows → RoomFor count (length rows)
+      → Built (length (set rows (rowPlaces * count) 0)) at count count (set rows (rowPlaces * count) 0) 0 0
   unfolding allWorth mandatorySum greatest
-  built-start rows blank =
+  built-start rows blank room =
       let none = left-end at count count (omega arith) in
       record {
         within-is = omega arith;
-        length-is = length-set rows (rowPlaces * count) 0 ∙ blank .length-is;
+        length-is = refl;
+        room = rw (length-set rows (rowPlaces * count) 0) room;
         rows-kept = record {
           row = λ k l m v n.
               let e : k ≡ count = omega arith in
-              rw (e, none) (none-row rows count v blank small n);
+              rw (e, none) (none-row rows count v blank room small n);
         };
         blank = λ k l v n.
             rw (getD-set-other rows (rowPlaces * count) (rowPlaces * k + v) 0 0 (omega arith))
-            (blank .huge (rowPlaces * k + v) (omega arith));
+            (blank (rowPlaces * k + v) (omega (arith, room .0)));
         most-is = rw none;
         most-within = omega arith;
         mandatory-is = rw none;
@@ -97,15 +100,15 @@ module _ (at : ℕ → Job) (count : ℕ) (small : count ≤ maxTasks) where
       }
 
   -- no number of the row before is above huge
-  pub before-below : (i : ℕ) (rows : List ℕ) (most mandatory : ℕ) → Built at count (i + 1) rows most mandatory → (v : ℕ) → v ≤ count
+  pub before-below : (size i : ℕ) (rows : List ℕ) (most mandatory : ℕ) → Built size at count (i + 1) rows most mandatory → (v : ℕ) → v ≤ count
       → getD rows (rowPlaces * i + rowPlaces + v) 0 ≤ hugeTicks
-  before-below i rows most mandatory b v l =
+  before-below size i rows most mandatory b v l =
       let e : rowPlaces * i + rowPlaces + v ≡ rowPlaces * (i + 1) + v = omega arith in
       rw e (row-below at count (i + 1) rows (b .rows-kept) (i + 1) v (omega arith) (b .within-is) l)
 
   -- one job more
-  module _ (bounded : (k : ℕ) → k < count → Bounded (at k)) (fit : fitsInOrder (places at count) (keepNone (places at count)) ≡ true) (i : ℕ) (rows : List ℕ)
-      (most mandatory : ℕ) (b : Built at count (i + 1) rows most mandatory) (worth from room : ℕ) (one : worth ≡ countOne (at i))
+  module _ (bounded : (k : ℕ) → k < count → Bounded (at k)) (fit : fitsInOrder (places at count) (keepNone (places at count)) ≡ true) (size i : ℕ) (rows : List ℕ)
+      (most mandatory : ℕ) (b : Built size at count (i + 1) rows most mandatory) (worth from room : ℕ) (one : worth ≡ countOne (at i))
       (from-is : from ≡ at i .release - mandatory) (room-is : room ≡ at i .deadline - (mandatory + at i .mandatory)) where
     -- the jobs from it on are the job and those before it in order
     from-step : jobsFrom at count i ≡ at i ∷ jobsFrom at count (i + 1)
@@ -165,12 +168,13 @@ module _ (at : ℕ → Job) (count : ℕ) (small : count ≤ maxTasks) where
     -- the rows of one job more
     pub built-step : (next : List ℕ) (found : ℕ) → RowPut (nextRow (at i) from room) (most + worth) (rowPlaces * i) rows next
         → found ≡ greatest hugeTicks (numbersFrom next (rowPlaces * i)) (most + worth)
-        → Built at count i next found (mandatory + at i .mandatory)
+        → Built size at count i next found (mandatory + at i .mandatory)
     built-step next found made is =
         let one-most = countOne-most (at i) in
         record {
           within-is = omega (arith, b .within-is);
           length-is = made .same-length ∙ b .length-is;
+          room = b .room;
           rows-kept = record {
             row = λ k l m v n.
                 elim (ℕ-discrete k i) [

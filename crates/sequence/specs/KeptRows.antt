@@ -75,10 +75,13 @@ boundBeside job keep room bound = pick (ltb 0 (workWith job keep)) (room - pick 
 abbrev pub numbersFrom : List ℕ → ℕ → ℕ → ℕ
 numbersFrom rows first v = getD rows (first + v) 0
 
+-- a list of `size` places has room for the rows of `count` jobs, and for no more rows than those of the most jobs
+abbrev pub RoomFor : ℕ → ℕ → Type 0
+RoomFor count size = (rowPlaces * (count + 1) ≤ size) × (size ≤ allRowPlaces)
+
 -- no row is written yet: every number is huge
-pub record Blank (size : ℕ) (rows : List ℕ) : Type 0 where
-  pub length-is : length rows ≡ size
-  pub huge : (k : ℕ) → k < size → getD rows k 0 ≡ hugeTicks
+abbrev pub Blank : List ℕ → Type 0
+Blank rows = (k : ℕ) → k < length rows → getD rows k 0 ≡ hugeTicks
 
 -- from job i on, the rows stand in their places, up to as many parts as there are jobs, each without the mandatory ticks of its jobs
 pub record RowsKept (at : ℕ → Job) (count i : ℕ) (rows : List ℕ) : Type 0 where
@@ -98,7 +101,7 @@ RowPut next most at before after = Rewritten 0 (next (numbersFrom before (at + r
 
 -- the rows of the first `count` of some jobs, the most parts that a list that fits keeps, and all mandatory ticks
 pub record RowsPut (jobs : List Job) (count : ℕ) (rows : List ℕ) (most mandatory : ℕ) : Type 0 where
-  pub length-is : length rows ≡ allRowPlaces
+  pub room : RoomFor count (length rows)
   pub rows-kept : RowsKept (λ k. getD jobs k noJob) count 0 rows
   pub most-is : most ≡ mostWorth countOne hugeTicks (firstPlaces noJob jobs count)
   pub most-within : most ≤ count

@@ -21,7 +21,7 @@ ghost use Rattle.placement.specs.HeldRuns.{FrontsWritten};
 ghost use Rattle.sequence.specs.InOrder.{fitsInOrder, firstLate, runsInOrder};
 ghost use Rattle.sequence.specs.OrderChoice.{chosenInOrder};
 ghost use Rattle.sequence.specs.OrderRows.{ending};
-ghost use Rattle.sequence.specs.KeptRows.{allRowPlaces, sameMarks, earliestOf, marksBack, numbersFrom, Blank, RowsKept, RowPut, RowsPut, PartsOf};
+ghost use Rattle.sequence.specs.KeptRows.{allRowPlaces, sameMarks, earliestOf, marksBack, numbersFrom, RoomFor, Blank, RowsKept, RowPut, RowsPut, PartsOf};
 ghost use Rattle.sequence.specs.KeptRows.{limitedEnd, freeFrom, freeRoom, rowWithout, rowWith, nextRow, keptBeside, boundBeside};
 use base::MAX_TASKS;
 use choosing::Choice;
@@ -31,6 +31,11 @@ use schedule::Job;
 
 // The places of all rows: one row for each job, and that of no job. The row of the jobs from place k on stands from place PLACES * k on.
 const ALL_PLACES: usize = PLACES * (MAX_TASKS + 1);
+
+// The same for few jobs, and how many these are.
+const FEW: usize = 16;
+
+const FEW_PLACES: usize = PLACES * (FEW + 1);
 
 // What a job asks of a time in a row: nothing of it starts before `from`, and nothing that ends later than `room` is in time.
 struct TimeLimits {
@@ -122,7 +127,7 @@ fn free_limits(job: Job, kept: TimeLimits) -> TimeLimits
 fn row_without(rows: &mut [u32], at: usize, free: TimeLimits, most: usize)
     requires { ⌜ most < rowPlaces ⌝ }
     requires { ⌜ at + rowPlaces + most < length (now rows) ⌝ }
-    requires { ⌜ length (now rows) ≡ allRowPlaces ⌝ }
+    requires { ⌜ length (now rows) ≤ allRowPlaces ⌝ }
     requires { ⌜ free .from ≤ hugeTicks ⌝ }
     requires { ⌜ ((k : ℕ) → k ≤ most → getD (now rows) (at + rowPlaces + k) 0 ≤ hugeTicks) ⌝ }
     ensures { λ _. ⌜ RowPut (rowWithout (free .from) (free .room)) most at (now (rows .entry)) (now (rows .exit)) ⌝ }
@@ -147,7 +152,7 @@ fn row_with(
 )
     requires { ⌜ most < rowPlaces ⌝ }
     requires { ⌜ at + rowPlaces + most < length (now rows) ⌝ }
-    requires { ⌜ length (now rows) ≡ allRowPlaces ⌝ }
+    requires { ⌜ length (now rows) ≤ allRowPlaces ⌝ }
     requires { ⌜ (optional ≤ maxTicks) × (kept .from ≤ hugeTicks) × (free .from ≤ hugeTicks) ⌝ }
     requires { ⌜ ((k : ℕ) → k ≤ most → getD (now rows) (at + rowPlaces + k) 0 ≤ hugeTicks) ⌝ }
     ensures { λ _. ⌜ RowPut (rowWith optional (kept .from) (kept .room) (free .from) (free .room)) most at (now (rows .entry)) (now (rows .exit)) ⌝ }
@@ -172,7 +177,7 @@ fn row_with(
 fn next_row(rows: &mut [u32], at: usize, job: Job, kept: TimeLimits, most: usize) -> usize
     requires { ⌜ most < rowPlaces ⌝ }
     requires { ⌜ at + rowPlaces + most < length (now rows) ⌝ }
-    requires { ⌜ length (now rows) ≡ allRowPlaces ⌝ }
+    requires { ⌜ length (now rows) ≤ allRowPlaces ⌝ }
     requires { ⌜ (job .optional ≤ maxTicks) × (kept .from ≤ hugeTicks) ⌝ }
     requires { ⌜ ((k : ℕ) → k ≤ most → getD (now rows) (at + rowPlaces + k) 0 ≤ hugeTicks) ⌝ }
     ensures { λ _. ⌜ RowPut (nextRow job (kept .from) (kept .room)) most at (now (rows .entry)) (now (rows .exit)) ⌝ }
@@ -192,7 +197,8 @@ fn next_row(rows: &mut [u32], at: usize, job: Job, kept: TimeLimits, most: usize
 fn rows_of(jobs: [Job; MAX_TASKS], count: usize, rows: &mut [u32]) -> Counts
     requires { ⌜ count ≤ maxTasks ⌝ }
     requires { ⌜ ((k : ℕ) → k < count → Bounded (getD jobs k noJob)) ⌝ }
-    requires { ⌜ Blank allRowPlaces (now rows) ⌝ }
+    requires { ⌜ RoomFor count (length (now rows)) ⌝ }
+    requires { ⌜ Blank (now rows) ⌝ }
     requires { ⌜ fitsInOrder (firstPlaces noJob jobs count) (keepNone (firstPlaces noJob jobs count)) ≡ true ⌝ }
     ensures { λ r. ⌜ RowsPut jobs count (now (rows .exit)) (r .most) (r .mandatory) ⌝ }
 {
@@ -223,7 +229,7 @@ fn rows_of(jobs: [Job; MAX_TASKS], count: usize, rows: &mut [u32]) -> Counts
 // limits. The row of the jobs before it stands from place `from` on.
 fn is_kept(rows: &[u32], from: usize, job: Job, limits: TimeLimits, v: usize) -> bool
     requires { ⌜ from + v < length (now rows) ⌝ }
-    requires { ⌜ length (now rows) ≡ allRowPlaces ⌝ }
+    requires { ⌜ length (now rows) ≤ allRowPlaces ⌝ }
     requires { ⌜ (job .optional ≤ maxTicks) × (limits .from ≤ hugeTicks) ⌝ }
     requires { ⌜ ((k : ℕ) → k ≤ v → getD (now rows) (from + k) 0 ≤ hugeTicks) ⌝ }
     ensures { λ r. ⌜ r ≡ keptBeside job (limits .from) (limits .room) (numbersFrom (now (rows .entry)) from) v ⌝ }
@@ -273,7 +279,7 @@ fn read_back(
     requires { ⌜ count ≤ maxTasks ⌝ }
     requires { ⌜ most ≤ count ⌝ }
     requires { ⌜ ((k : ℕ) → k < count → Bounded (getD jobs k noJob)) ⌝ }
-    requires { ⌜ length (now rows) ≡ allRowPlaces ⌝ }
+    requires { ⌜ RoomFor count (length (now rows)) ⌝ }
     requires { ⌜ RowsKept (λ k. getD jobs k noJob) count 0 (now rows) ⌝ }
     requires { ⌜ mandatory ≡ mandatorySum (firstPlaces noJob jobs count) ⌝ }
     requires { ⌜ earliestOf (firstPlaces noJob jobs count) most < hugeTicks ⌝ }
@@ -336,7 +342,27 @@ fn all_fit(jobs: [Job; MAX_TASKS], count: usize) -> bool
     true
 }
 
-// The choice by rows. `parts` is the number of all parts above 0 ticks.
+// The choice by rows, which stand in a lent list that is huge throughout. `parts` is the number of all parts above 0 ticks.
+fn choose_in(jobs: [Job; MAX_TASKS], count: usize, parts: usize, rows: &mut [u32]) -> Choice
+    requires { ⌜ count ≤ maxTasks ⌝ }
+    requires { ⌜ ((k : ℕ) → k < count → Bounded (getD jobs k noJob)) ⌝ }
+    requires { ⌜ fitsInOrder (firstPlaces noJob jobs count) (keepNone (firstPlaces noJob jobs count)) ≡ true ⌝ }
+    requires { ⌜ PartsOf jobs count parts ⌝ }
+    requires { ⌜ RoomFor count (length (now rows)) ⌝ }
+    requires { ⌜ Blank (now rows) ⌝ }
+    ensures { λ r. ⌜ ChosenFor (chosenInOrder (firstPlaces noJob jobs count)) (firstPlaces noJob jobs count) (firstPlaces false (r .keeps) count) (r .kept) (r .discarded) ⌝ }
+{
+    let counts = rows_of(jobs, count, rows);
+    let most = counts.most;
+    let keeps = read_back(jobs, count, rows, most, counts.mandatory);
+    Choice {
+        keeps,
+        kept: most as u32,
+        discarded: (parts - most) as u32,
+    }
+}
+
+// The same in a list of its own, which is cleared: one for few jobs, since to clear the one for all takes longer than to fill their rows.
 fn choose_by_rows(jobs: [Job; MAX_TASKS], count: usize, parts: usize) -> Choice
     requires { ⌜ count ≤ maxTasks ⌝ }
     requires { ⌜ ((k : ℕ) → k < count → Bounded (getD jobs k noJob)) ⌝ }
@@ -344,15 +370,12 @@ fn choose_by_rows(jobs: [Job; MAX_TASKS], count: usize, parts: usize) -> Choice
     requires { ⌜ PartsOf jobs count parts ⌝ }
     ensures { λ r. ⌜ ChosenFor (chosenInOrder (firstPlaces noJob jobs count)) (firstPlaces noJob jobs count) (firstPlaces false (r .keeps) count) (r .kept) (r .discarded) ⌝ }
 {
-    let mut rows = [HUGE; ALL_PLACES];
-    let counts = rows_of(jobs, count, &mut rows);
-    let most = counts.most;
-    let keeps = read_back(jobs, count, &rows, most, counts.mandatory);
-    Choice {
-        keeps,
-        kept: most as u32,
-        discarded: (parts - most) as u32,
+    if count <= FEW {
+        let mut rows = [HUGE; FEW_PLACES];
+        return choose_in(jobs, count, parts, &mut rows);
     }
+    let mut rows = [HUGE; ALL_PLACES];
+    choose_in(jobs, count, parts, &mut rows)
 }
 
 // The keep list of the similar jobs that stand last first at the first `count` places. Where every part can be kept, no row is made.

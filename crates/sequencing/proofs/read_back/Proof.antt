@@ -66,9 +66,9 @@ is-kept-requires c κs =
     let loop = inside .before .loop in
     let walked = loop .inv in
     let job = pre .1 .1 .0 (loop .i) (inside .loop-test .taken) in (
-      omega (arith, pre .0, pre .1 .1 .1 .0, walked .most),
+      omega (arith, pre .0, pre .1 .1 .1 .0 .0, walked .most),
       (
-        pre .1 .1 .1 .0,
+        pre .1 .1 .1 .0 .1,
         (
           (job .optional, omega (arith, c .minus2 .ensures, job .release)),
           λ k l. row-below _ _ _ _ (pre .1 .1 .1 .1 .0) (loop .i + 1) k (omega arith) (omega arith) (omega (arith, walked .most)),

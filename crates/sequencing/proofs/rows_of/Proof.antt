@@ -1,18 +1,19 @@
 -- `sequencing::rows_of` meets its contract: the rows are built from the first job in similar order to the last.
-use Prim.Native.Nat.{_+_, _-_, _≤_}
+use Prim.Native.Nat.{_+_, _-_, _*_, _≤_}
 use mathlib.Core.Path.{_≡_, sym, _∙_}
 use native.Mathlib.Omega.{arith}
 use borrow.Author.Needs.{needs}
-use lib.ListN.{getD}
+use lib.ListN.{length, getD, length-set}
 use Rattle.base.proofs.PlaceLaws.{left-start}
 use Rattle.schedule.specs.Jobs.{noJob, Bounded}
+use Rattle.choice.specs.Decisions.{rowPlaces}
 use Rattle.choice.proofs.BuildLaws.{countOne-most}
 use Rattle.sequence.proofs.KeptRowLaws.{Built, built-start, before-below, built-step}
 use Rattle.sequencing.proofs.rows_of.Statement.{statement}
 use Rattle.sequencing.proofs.rows_of.Tie as tie
 
 abbrev Inv-loop : tie.InvT-loop
-Inv-loop count rows₀ jobs most₀ mandatory₀ i₀ rows most mandatory i = Built (λ k. getD jobs k noJob) count i rows most mandatory
+Inv-loop count rows₀ jobs most₀ mandatory₀ i₀ rows most mandatory i = Built (length rows₀) (λ k. getD jobs k noJob) count i rows most mandatory
 
 abbrev μ-loop : tie.MeasureT-loop
 μ-loop count rows₀ jobs most₀ mandatory₀ i₀ rows most mandatory i = i
@@ -41,10 +42,10 @@ mul-rows-2 : tie.Need-mul-rows-2 Inv-loop μ-loop
 mul-rows-2 c = omega (arith, c .before .pre .0)
 
 slice-write-rows : tie.Need-slice-write-rows Inv-loop μ-loop
-slice-write-rows c = omega (arith, c .before .pre .0, c .before .pre .1 .1 .0 .length-is)
+slice-write-rows c = omega (arith, c .before .pre .0, c .before .pre .1 .1 .0 .0)
 
 loop-holds : tie.Need-loop-holds Inv-loop μ-loop
-loop-holds c = built-start _ _ (c .before .pre .0) _ (c .before .pre .1 .1 .0)
+loop-holds c = built-start _ _ (c .before .pre .0) (c .before .args .rows .now) (c .before .pre .1 .1 .1 .0) (c .before .pre .1 .1 .0)
 
 sub-i : tie.Need-sub-i Inv-loop μ-loop
 sub-i c = omega arith
@@ -87,13 +88,13 @@ next-row-requires c κs =
     let job = bounded inside in (
       omega (arith, start .pre .0),
       (
-        omega (arith, built .length-is, built .within-is, start .pre .0),
+        omega (arith, built .length-is, built .room .0, built .within-is, start .pre .0),
         (
-          built .length-is,
+          omega (arith, built .length-is, built .room .1),
           (
             (job .optional, omega (arith, worth .before .before .minus .ensures, job .release)),
             λ k l.
-                before-below _ _ (start .pre .0) (loop .i - 1) _ _ _ (rw next at built) k (omega (arith, inside .loop-test .taken)),
+                before-below _ _ (start .pre .0) _ (loop .i - 1) _ _ _ (rw next at built) k (omega (arith, inside .loop-test .taken)),
           ),
         ),
       ),
@@ -110,11 +111,13 @@ loop-again c =
     let start = inside .before .before .before in
     let loop = inside .before .loop in
     let next : loop .i ≡ loop .i - 1 + 1 = omega arith in
-    built-step _ _ (start .pre .0) (start .pre .1 .0) (start .pre .1 .1 .1) (loop .i - 1) _ _ _ (rw next at (loop .inv)) _ _ _ (worth .worth .ensures)
+    built-step _ _ (start .pre .0) (start .pre .1 .0) (start .pre .1 .1 .1 .1) _ (loop .i - 1) _ _ _ (rw next at (loop .inv)) _ _ _ (worth .worth .ensures)
     (worth .before .before .minus .ensures) (worth .before .minus2 .ensures) _ _ (called .next-row .ensures .0) (called .next-row .ensures .1)
 
 same-length : tie.Need-same-length Inv-loop μ-loop
-same-length c = c .before .loop .inv .length-is ∙ sym (c .before .before .before .pre .1 .1 .0 .length-is)
+same-length c =
+    let args = c .before .before .before .args in
+    c .before .loop .inv .length-is ∙ length-set (args .rows .now) (rowPlaces * args .count) 0
 
 returns : tie.Need-returns Inv-loop μ-loop
 returns c =
@@ -123,7 +126,7 @@ returns c =
     let args = c .before .before .before .args in
     let start = left-start (λ k. getD (args .t1) k noJob) (args .count) in
     record {
-      length-is = built .length-is;
+      room = rw (built .length-is) (built .room);
       rows-kept = rw end at (built .rows-kept);
       most-is = rw (end, start) at (built .most-is);
       most-within = omega (arith, built .most-within);
