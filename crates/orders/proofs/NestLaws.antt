@@ -11,7 +11,7 @@ use Rattle.clock.proofs.ClockLaws.{release-monotone, deadline-monotone}
 use Rattle.table.specs.declared.Task.{Task}
 use Rattle.table.specs.declared.Table.{Table}
 use Rattle.table.specs.Tables.{taskAt}
-use Rattle.table.specs.Windows.{reversed, contains, nested}
+use Rattle.table.specs.Windows.{badWindow, contains, nested}
 use Rattle.table.specs.Kinds.{isNested}
 use Rattle.table.specs.Writing.{Legal}
 use Rattle.table.proofs.KindLaws.{nested-sym, any-pairs, legal-forward}
@@ -39,9 +39,9 @@ contains-test a b l m =
     and-true (leb (a .release) (b .release)) (leb (b .deadline) (a .deadline)) (le-leb (a .release) (b .release) l) (le-leb (b .deadline) (a .deadline) m)
 
 -- of two nested windows the one with no more frames lies inside the other
-inside-frames : (a b : Task) → nested a b ≡ true → reversed a ≡ false → reversed b ≡ false → a .deadline - a .release ≤ b .deadline - b .release
+inside-frames : (a b : Task) → nested a b ≡ true → badWindow a ≡ false → badWindow b ≡ false → a .deadline - a .release ≤ b .deadline - b .release
     → contains b a ≡ true
-unfolding nested reversed
+unfolding nested badWindow
 inside-frames a b e fa fb l =
     cases (contains a b)
     (λ f.
@@ -61,7 +61,7 @@ unfolding nestBefore LexAtMost
 nest-frames t a b e = less→atMost (nestKey t a) (nestKey t b) e .0
 
 -- in a nested table it lies inside
-nest-inside : (t : Table) → ((k : ℕ) → k < t .count → reversed (taskAt t k) ≡ false) → isNested t ≡ true → (a b : ℕ) → a < t .count → b < t .count → nestBefore t a b ≡ true → inside t a b ≡ true
+nest-inside : (t : Table) → ((k : ℕ) → k < t .count → badWindow (taskAt t k) ≡ false) → isNested t ≡ true → (a b : ℕ) → a < t .count → b < t .count → nestBefore t a b ≡ true → inside t a b ≡ true
 unfolding isNested
 nest-inside t ahead e a b la lb before =
     let near = any-pairs nested nested-sym (taskAt t) (t .count) e a b la lb (λ same.
@@ -70,7 +70,7 @@ nest-inside t ahead e a b la lb before =
     inside-frames (taskAt t a) (taskAt t b) near (ahead a la) (ahead b lb) (nest-frames t a b before)
 
 -- Outermost first, each window of a nested table lies inside those before it.
-pub nest-falls : (t : Table) → ((k : ℕ) → k < t .count → reversed (taskAt t k) ≡ false) → isNested t ≡ true → Sorted (inside t) (lastFirst (nestBefore t) (t .count))
+pub nest-falls : (t : Table) → ((k : ℕ) → k < t .count → badWindow (taskAt t k) ≡ false) → isNested t ≡ true → Sorted (inside t) (lastFirst (nestBefore t) (t .count))
 nest-falls t ahead e = falls-by (nestBefore t) (inside t) (t .count) (nest-strict t) (nest-inside t ahead e)
 
 -- Chains of jobs.

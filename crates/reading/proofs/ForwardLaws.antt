@@ -13,7 +13,7 @@ use Rattle.table.specs.declared.Answer.the-variants.{Accepted, Window}
 use Rattle.table.specs.Tables.{taskAt, tableOf}
 use Rattle.table.specs.Layout.{taskWidths, taskStart}
 use Rattle.table.specs.Answers.{isAccepted}
-use Rattle.table.specs.Windows.{reversed}
+use Rattle.table.specs.Windows.{badWindow}
 use Rattle.table.specs.Kinds.{isNested, isSimilar, forwardAnswer, windowsAnswer, windowAnswer}
 use Rattle.table.specs.Reading.{countIn, pIn, qIn, taskFrom, taskIn, tableIn, headAnswer, readAnswer}
 use Rattle.table.proofs.AnswerLaws.{accepted-is, firstRefusal-known, refused-none}
@@ -28,7 +28,7 @@ pub forward-head : (s : List ℕ) → isAccepted (headAnswer s) ≡ false → he
 unfolding forwardRead
 forward-head s e = rw e
 
--- and past it the windows that are reversed do.
+-- and past it the windows that are bad do.
 pub forward-windows : (s : List ℕ) → headAnswer s ≡ Accepted → forwardAnswer (taskAt (tableIn s)) (tableIn s .count) ≡ forwardRead s
 unfolding forwardRead
 forward-windows s e = rw e
@@ -39,7 +39,7 @@ unfolding forwardRead readAnswer windowAnswer windowsAnswer
 forward-refused s =
     cases (isAccepted (headAnswer s)) (λ e. rw e (λ f. rw f)) (λ e. rw e (λ f. refl))
 
--- Where it refuses nothing, neither the header nor a window that is reversed is refused.
+-- Where it refuses nothing, neither the header nor a window that is bad is refused.
 forward-known : (s : List ℕ) → forwardRead s ≡ Accepted → (headAnswer s ≡ Accepted) × (forwardAnswer (taskAt (tableIn s)) (tableIn s .count) ≡ Accepted)
 unfolding forwardRead
 forward-known s e = firstRefusal-known (headAnswer s) (forwardAnswer (taskAt (tableIn s)) (tableIn s .count)) e
@@ -49,10 +49,10 @@ deadline-named : (s : List ℕ) (start : ℕ) → taskFrom s start .deadline ≤
 unfolding taskFrom
 deadline-named s start = let f = fields-fit taskWidths s start in omega (arith, f .1 .0)
 
--- What is known of the table then: it has no more tasks than fit, no window is reversed, and the frames are those that a table can name.
+-- What is known of the table then: it has no more tasks than fit, no window is bad, and the frames are those that a table can name.
 pub record ForwardTable (s : List ℕ) : Type 0 where
   pub few : tableIn s .count ≤ maxTasks
-  pub ahead : (k : ℕ) → k < tableIn s .count → reversed (taskAt (tableIn s) k) ≡ false
+  pub ahead : (k : ℕ) → k < tableIn s .count → badWindow (taskAt (tableIn s) k) ≡ false
   pub named : (k : ℕ) → k < tableIn s .count → taskAt (tableIn s) k .deadline ≤ lastFrame
 
 pub forward-table : (s : List ℕ) → forwardRead s ≡ Accepted → ForwardTable s
@@ -62,7 +62,7 @@ forward-table s e =
     let few : countIn s ≤ maxTasks = head-few s (z .0) .0 in
     record {
       few = few;
-      ahead = refused-none Window (λ k. refl) (λ k. reversed (taskAt (tableIn s) k)) (tableIn s .count) (z .1);
+      ahead = refused-none Window (λ k. refl) (λ k. badWindow (taskAt (tableIn s) k)) (tableIn s .count) (z .1);
       named = λ k l. rw (taskAt-below (countIn s) (pIn s) (qIn s) (taskIn s) k few l) (deadline-named s (taskStart k));
     }
 

@@ -19,15 +19,15 @@ use Rattle.table.specs.declared.Answer.the-variants.{Accepted}
 use Rattle.table.specs.Tables.{noTask, noTable, taskAt, tableOf}
 use Rattle.table.specs.Answers.{isAccepted}
 use Rattle.table.specs.Layout.{headerWidth, taskStart}
-use Rattle.table.specs.Kinds.{isNested, windowsAnswer, acceptedNested, windowAnswer}
+use Rattle.table.specs.Kinds.{windowsAnswer, windowAnswer}
 use Rattle.table.specs.WindowColumns.{windowAt, FramesOf}
 use Rattle.reading.specs.Frames.{FramesIn}
 use Rattle.table.proofs.AnswerLaws.{firstRefusal-known}
 use Rattle.table.proofs.FileLaws.{count-known}
 use Rattle.table.proofs.RoundTrip.{head-known, tableIn-count}
 use Rattle.table.proofs.TableLaws.{taskAt-below}
-use Rattle.table.proofs.WindowLaws.{answer-columns, nested-columns}
-use Rattle.table.specs.Reading.{countIn, pIn, qIn, taskIn, tableIn, headAnswer, readAnswer, readNested, reading}
+use Rattle.table.proofs.WindowLaws.{answer-columns}
+use Rattle.table.specs.Reading.{countIn, pIn, qIn, taskIn, tableIn, headAnswer, readAnswer, reading}
 
 -- the header's numbers and the tasks that were taken make the table of the file
 pub table-taken : (s : List ℕ) (count : ℕ) (t : Table) → count ≡ countIn s → t .count ≡ count → t .p ≡ pIn s → t .q ≡ qIn s
@@ -70,13 +70,6 @@ windows-taken s count frames few c held =
     ap (windowsAnswer (windowAt (take maxTasks frames) (drop maxTasks frames))) (c ∙ sym (tableIn-count s))
     ∙ answer-columns (tableIn s) (take maxTasks frames) (drop maxTasks frames) (columns-taken s frames few held)
 
--- and they are nested where those of the file's table are
-pub nested-taken : (s : List ℕ) (count : ℕ) (frames : List ℕ) → countIn s ≤ maxTasks → count ≡ countIn s → FramesIn (taskIn s) (countIn s) frames
-    → acceptedNested (windowAt (take maxTasks frames) (drop maxTasks frames)) count ≡ acceptedNested (taskAt (tableIn s)) (tableIn s .count)
-nested-taken s count frames few c held =
-    ap (acceptedNested (windowAt (take maxTasks frames) (drop maxTasks frames))) (c ∙ sym (tableIn-count s))
-    ∙ nested-columns (tableIn s) (take maxTasks frames) (drop maxTasks frames) (columns-taken s frames few held)
-
 -- a header that is accepted has a count in range, and the file the bits of its tasks
 pub head-few : (s : List ℕ) → headAnswer s ≡ Accepted → (countIn s ≤ maxTasks) × (taskStart (countIn s) ≤ 8 * length s)
 unfolding taskStart bytesFor
@@ -99,16 +92,6 @@ pub head-accepted : (s : List ℕ) → headAnswer s ≡ Accepted → windowAnswe
 unfolding readAnswer
 head-accepted s e = rw e
 
--- a refused file is not said to be nested
-pub kind-refused : (s : List ℕ) → isAccepted (readAnswer s) ≡ false → false ≡ readNested s
-unfolding readNested
-kind-refused s e = rw e
-
--- and past the header it is where the windows are
-pub kind-accepted : (s : List ℕ) → headAnswer s ≡ Accepted → acceptedNested (taskAt (tableIn s)) (tableIn s .count) ≡ readNested s
-unfolding readNested readAnswer acceptedNested windowAnswer isNested
-kind-accepted s e = rw e
-
 -- an accepted file has an accepted header
 pub read-head : (s : List ℕ) → readAnswer s ≡ Accepted → headAnswer s ≡ Accepted
 unfolding readAnswer
@@ -123,7 +106,7 @@ pub table-accepted : (s : List ℕ) → readAnswer s ≡ Accepted → tableIn s 
 unfolding reading
 table-accepted s e = rw e
 
--- a reply is known by its answer, its kind and its table
-pub reply-is : (r : Reading) (s : List ℕ) → r .answer ≡ readAnswer s → r .nested ≡ readNested s → r .table ≡ reading s .table → r ≡ reading s
+-- a reply is known by its answer and its table
+pub reply-is : (r : Reading) (s : List ℕ) → r .answer ≡ readAnswer s → r .table ≡ reading s .table → r ≡ reading s
 unfolding reading
-reply-is r s a n t = λ i. record { answer = a i; nested = n i; table = t i }
+reply-is r s a t = λ i. record { answer = a i; table = t i }

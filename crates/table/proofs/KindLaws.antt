@@ -15,7 +15,7 @@ use Rattle.table.specs.declared.Task.{Task}
 use Rattle.table.specs.declared.Table.{Table}
 use Rattle.table.specs.declared.Answer.the-variants.{Accepted, Window, Kind}
 use Rattle.table.specs.Tables.{taskAt, Same}
-use Rattle.table.specs.Windows.{reversed, contains, nested, noLater, similar}
+use Rattle.table.specs.Windows.{badWindow, contains, nested, noLater, similar}
 use Rattle.table.specs.Kinds.{
   failsEarlier,
   pairwise,
@@ -25,7 +25,6 @@ use Rattle.table.specs.Kinds.{
   forwardAnswer,
   kindAnswer,
   windowsAnswer,
-  acceptedNested,
   windowAnswer,
 }
 use Rattle.table.specs.WindowColumns.{greatestNumber}
@@ -190,15 +189,15 @@ pub nested-accepted : (t : Table) → isNested t ≡ true → kindAnswer (taskAt
 unfolding isNested
 nested-accepted t e = kind-test (taskAt t) (t .count) (inl e)
 
--- The windows of two runs of tasks stand alike below n: the same are reversed, and the same two are nested, and similar.
+-- The windows of two runs of tasks stand alike below n: the same are bad, and the same two are nested, and similar.
 pub record Alike (f g : ℕ → Task) (n : ℕ) : Type 0 where
-  pub forward : (k : ℕ) → k < n → reversed (f k) ≡ reversed (g k)
+  pub forward : (k : ℕ) → k < n → badWindow (f k) ≡ badWindow (g k)
   pub nesting : (j k : ℕ) → j < k → k < n → nested (f j) (f k) ≡ nested (g j) (g k)
   pub similarity : (j k : ℕ) → j < k → k < n → similar (f j) (f k) ≡ similar (g j) (g k)
 
 -- Tasks with the same frames stand alike.
 pub frames-alike : (f g : ℕ → Task) (n : ℕ) → ((k : ℕ) → k < n → (f k .release ≡ g k .release) × (f k .deadline ≡ g k .deadline)) → Alike f g n
-unfolding reversed nested contains similar noLater
+unfolding badWindow nested contains similar noLater
 frames-alike f g n h =
     record {
       forward = λ k l. rw (h k l .0, h k l .1);
@@ -209,7 +208,7 @@ frames-alike f g n h =
 -- Where they stand alike, 6 is sent to both or to neither, with the same place,
 pub forward-alike : {f g : ℕ → Task} {n : ℕ} → Alike f g n → forwardAnswer f n ≡ forwardAnswer g n
 unfolding forwardAnswer
-forward-alike {f} {g} {n} a = refused-same Window (λ k. reversed (f k)) (λ k. reversed (g k)) n (a .forward)
+forward-alike {f} {g} {n} a = refused-same Window (λ k. badWindow (f k)) (λ k. badWindow (g k)) n (a .forward)
 
 -- and so is 7,
 pub kind-alike : {f g : ℕ → Task} {n : ℕ} → Alike f g n → kindAnswer f n ≡ kindAnswer g n
@@ -224,11 +223,6 @@ kind-alike {f} {g} {n} a =
 pub windows-alike : {f g : ℕ → Task} {n : ℕ} → Alike f g n → windowsAnswer f n ≡ windowsAnswer g n
 unfolding windowsAnswer
 windows-alike a = rw (forward-alike a, kind-alike a)
-
--- They are nested alike as well, where nothing is refused.
-pub accepted-alike : {f g : ℕ → Task} {n : ℕ} → Alike f g n → acceptedNested f n ≡ acceptedNested g n
-unfolding acceptedNested
-accepted-alike {f} {g} {n} a = rw (windows-alike a, pairs-alike nested nested f g n (a .nesting))
 
 -- Tables that are the same have windows that stand alike,
 same-alike : {a b : Table} → Same a b → Alike (taskAt a) (taskAt b) (a .count)
@@ -253,9 +247,9 @@ pub window-same : {a b : Table} → Same a b → windowAnswer a ≡ windowAnswer
 unfolding windowAnswer
 window-same {a} {b} s = windows-alike (same-alike s) ∙ ap (windowsAnswer (taskAt b)) (s .count)
 
--- What the windows tell when they are accepted: none is reversed, and the table is nested or similar.
+-- What the windows tell when they are accepted: none is bad, and the table is nested or similar.
 pub record WindowsKnown (t : Table) : Type 0 where
-  pub forward : (k : ℕ) → k < t .count → reversed (taskAt t k) ≡ false
+  pub forward : (k : ℕ) → k < t .count → badWindow (taskAt t k) ≡ false
   pub kind : (isNested t ≡ true) ⊎ (isSimilar t ≡ true)
 
 -- Windows that are accepted are so.
@@ -264,7 +258,7 @@ unfolding windowAnswer windowsAnswer forwardAnswer isNested isSimilar
 window-known t e =
     let z = firstRefusal-known (forwardAnswer (taskAt t) (t .count)) (kindAnswer (taskAt t) (t .count)) e in
     record {
-      forward = refused-none Window (λ k. refl) (λ k. reversed (taskAt t k)) (t .count) (z .0);
+      forward = refused-none Window (λ k. refl) (λ k. badWindow (taskAt t k)) (t .count) (z .0);
       kind = kind-known (taskAt t) (t .count) (z .1);
     }
 
@@ -273,15 +267,15 @@ pub window-test : (t : Table) → WindowsKnown t → windowAnswer t ≡ Accepted
 unfolding windowAnswer windowsAnswer forwardAnswer isNested isSimilar
 window-test t w =
     firstRefusal-test (forwardAnswer (taskAt t) (t .count)) (kindAnswer (taskAt t) (t .count))
-    (none-refused Window (λ k. reversed (taskAt t k)) (t .count) (w .forward))
+    (none-refused Window (λ k. badWindow (taskAt t k)) (t .count) (w .forward))
     (kind-test (taskAt t) (t .count) (w .kind))
 
 -- A table whose windows are accepted and that is not nested is similar.
 pub similar-where : (t : Table) → windowAnswer t ≡ Accepted → isNested t ≡ false → isSimilar t ≡ true
 similar-where t e n = ⊎-elim (λ i. both-absurd (isNested t) i n) (λ i. i) (window-known t e .kind)
 
--- The window at a position of a legal table is not reversed.
-pub legal-forward : (t : Table) → Legal t → (k : ℕ) → k < t .count → reversed (taskAt t k) ≡ false
+-- The window at a position of a legal table is not bad.
+pub legal-forward : (t : Table) → Legal t → (k : ℕ) → k < t .count → badWindow (taskAt t k) ≡ false
 legal-forward t l = window-known t (l .windows) .forward
 
 -- A legal table that is not nested is similar.

@@ -8,8 +8,8 @@ use Rattle.table.specs.declared.Table.{Table}
 use Rattle.table.specs.declared.Answer.{Answer}
 use Rattle.table.specs.declared.Answer.the-variants.{Window, Kind}
 use Rattle.table.specs.Tables.{taskAt}
-use Rattle.table.specs.Answers.{isAccepted, firstRefusal, refusedAt}
-use Rattle.table.specs.Windows.{reversed, nested, similar}
+use Rattle.table.specs.Answers.{firstRefusal, refusedAt}
+use Rattle.table.specs.Windows.{badWindow, nested, similar}
 
 -- the task at position k fails a test of pairs with some earlier one
 unfoldable pub failsEarlier : (Task → Task → Bool) → (ℕ → Task) → ℕ → Bool
@@ -31,9 +31,9 @@ isSimilar t = pairwise similar (taskAt t) (t .count)
 unfoldable pub ofNeitherKind : (ℕ → Task) → ℕ → Bool
 ofNeitherKind at k = and (not (pairwise nested at (suc k))) (not (pairwise similar at (suc k)))
 
--- 6 for the lowest position below n whose window is reversed
+-- 6 for the lowest position below n whose window is bad
 unfoldable pub forwardAnswer : (ℕ → Task) → ℕ → Answer
-forwardAnswer at n = refusedAt Window (λ k. reversed (at k)) n
+forwardAnswer at n = refusedAt Window (λ k. badWindow (at k)) n
 
 -- 7 for 'the lowest position such that the table cut after it is of neither kind'
 unfoldable pub kindAnswer : (ℕ → Task) → ℕ → Answer
@@ -42,10 +42,6 @@ kindAnswer at n = refusedAt Kind (ofNeitherKind at) n
 -- what the windows of the first n tasks answer: 6, and else 7
 unfoldable pub windowsAnswer : (ℕ → Task) → ℕ → Answer
 windowsAnswer at n = firstRefusal (forwardAnswer at n) (kindAnswer at n)
-
--- nothing of that is refused, and the windows are nested
-unfoldable pub acceptedNested : (ℕ → Task) → ℕ → Bool
-acceptedNested at n = and (isAccepted (windowsAnswer at n)) (pairwise nested at n)
 
 -- what the windows of a table answer
 unfoldable pub windowAnswer : Table → Answer

@@ -4,12 +4,11 @@ ghost use mathlib.Core.Bool.{not};
 ghost use Prim.Native.Nat.{_≤_, min};
 ghost use lib.ListN.{length, getD};
 ghost use Rattle.base.specs.Limits.{maxTasks};
-ghost use Rattle.base.specs.Tests.{and};
 ghost use Rattle.base.specs.Lowest.{lowest, someBelow};
 ghost use Rattle.table.specs.Tables.{noTask, noTable, tableOf};
-ghost use Rattle.table.specs.Answers.{numberOf, placeOf, isAccepted, declined, wrote};
-ghost use Rattle.table.specs.Windows.{reversed, contains, nested};
-ghost use Rattle.table.specs.Kinds.{acceptedNested, failsEarlier, forwardAnswer, kindAnswer, nestingAnswer, ofNeitherKind, pairwise, windowAnswer, windowsAnswer};
+ghost use Rattle.table.specs.Answers.{numberOf, placeOf, declined, wrote};
+ghost use Rattle.table.specs.Windows.{badWindow, contains, nested};
+ghost use Rattle.table.specs.Kinds.{failsEarlier, forwardAnswer, kindAnswer, nestingAnswer, ofNeitherKind, windowAnswer, windowsAnswer};
 ghost use Rattle.table.specs.WindowColumns.{windowAt, Mirrored};
 ghost use Rattle.table.specs.Layout.{badCount, badPeriod, widestRow, rowsLength, fileLength};
 use base::MAX_PERIOD;
@@ -93,16 +92,9 @@ pub enum Answer {
     Kind(usize),
 }
 
-// What the windows of a table answer, and whether they are nested, which is false where they are refused.
-pub struct WindowReply {
-    pub answer: Answer,
-    pub nested: bool,
-}
-
-// The reply of reading: the answer, whether the table is nested, which is false where reading refuses, and the table.
+// The reply of reading: the answer, and the table.
 pub struct Reading {
     pub answer: Answer,
-    pub nested: bool,
     pub table: Table,
 }
 
@@ -216,8 +208,8 @@ pub fn file_length(count: u32) -> usize
 }
 
 // The release frame is not below the deadline frame.
-fn is_reversed(task: Task) -> bool
-    ensures { λ r. ⌜ r ≡ reversed task ⌝ }
+fn is_bad_window(task: Task) -> bool
+    ensures { λ r. ⌜ r ≡ badWindow task ⌝ }
 {
     task.deadline <= task.release
 }
@@ -256,10 +248,10 @@ fn crosses_earlier(task: Task, releases: &[u32], deadlines: &[u32], count: usize
     crossing
 }
 
-// The lowest position below the count whose window is reversed, of windows that stand in two columns, and the count where none is.
-fn first_reversed(releases: &[u32], deadlines: &[u32], count: usize) -> usize
+// The lowest position below the count whose window is bad, of windows that stand in two columns, and the count where none is.
+fn first_bad_window(releases: &[u32], deadlines: &[u32], count: usize) -> usize
     requires { ⌜ (count ≤ length (now releases)) × (count ≤ length (now deadlines)) ⌝ }
-    ensures { λ r. ⌜ r ≡ lowest (λ k. reversed (windowAt (now (releases .entry)) (now (deadlines .entry)) k)) count ⌝ }
+    ensures { λ r. ⌜ r ≡ lowest (λ k. badWindow (windowAt (now (releases .entry)) (now (deadlines .entry)) k)) count ⌝ }
 {
     let mut k: usize = 0;
     while k < count {
@@ -269,7 +261,7 @@ fn first_reversed(releases: &[u32], deadlines: &[u32], count: usize) -> usize
             mandatory: 0,
             optional: 0,
         };
-        if is_reversed(window) {
+        if is_bad_window(window) {
             return k;
         }
         k += 1;
@@ -331,46 +323,34 @@ fn first_of_neither(releases: &[u32], deadlines: &[u32], count: usize, crossing:
     dissimilar
 }
 
-// The first of the windows in two columns that is reversed, as an answer.
-pub fn forward_answer(releases: &[u32], deadlines: &[u32], count: usize) -> Answer
+// The first of the windows in two columns that is bad, as an answer.
+fn forward_answer(releases: &[u32], deadlines: &[u32], count: usize) -> Answer
     requires { ⌜ (count ≤ length (now releases)) × (count ≤ length (now deadlines)) ⌝ }
     ensures { λ r. ⌜ r ≡ forwardAnswer (windowAt (now (releases .entry)) (now (deadlines .entry))) count ⌝ }
 {
-    let reversed = first_reversed(releases, deadlines, count);
-    if reversed < count {
-        return Answer::Window(reversed);
+    let bad = first_bad_window(releases, deadlines, count);
+    if bad < count {
+        return Answer::Window(bad);
     }
     Answer::Accepted
 }
 
-// The first position such that the windows in two columns up to it are of neither kind, as an answer, and whether the windows are nested. Where none
-// crosses an earlier one they are, and nothing else is looked for.
-pub fn kind_answer(releases: &[u32], deadlines: &[u32], count: usize) -> WindowReply
+// The first position such that the windows in two columns up to it are of neither kind, as an answer. Where none crosses an earlier one all are nested,
+// and nothing else is looked for.
+fn kind_answer(releases: &[u32], deadlines: &[u32], count: usize) -> Answer
     requires { ⌜ count ≤ maxTasks ⌝ }
     requires { ⌜ (count ≤ length (now releases)) × (count ≤ length (now deadlines)) ⌝ }
-    ensures { λ r. ⌜ r .answer ≡ kindAnswer (windowAt (now (releases .entry)) (now (deadlines .entry))) count ⌝ }
-    ensures { λ r. ⌜ r .nested
-        ≡ and (isAccepted (kindAnswer (windowAt (now (releases .entry)) (now (deadlines .entry))) count))
-        (pairwise nested (windowAt (now (releases .entry)) (now (deadlines .entry))) count) ⌝ }
+    ensures { λ r. ⌜ r ≡ kindAnswer (windowAt (now (releases .entry)) (now (deadlines .entry))) count ⌝ }
 {
     let crossing = first_crossing(releases, deadlines, count);
     if count <= crossing {
-        return WindowReply {
-            answer: Answer::Accepted,
-            nested: true,
-        };
+        return Answer::Accepted;
     }
     let neither = first_of_neither(releases, deadlines, count, crossing);
     if neither < count {
-        return WindowReply {
-            answer: Answer::Kind(neither),
-            nested: false,
-        };
+        return Answer::Kind(neither);
     }
-    WindowReply {
-        answer: Answer::Accepted,
-        nested: false,
-    }
+    Answer::Accepted
 }
 
 // The first of the windows in two columns that crosses an earlier one, as an answer: for readers and planners of nested tables alone.
@@ -385,20 +365,15 @@ pub fn nesting_answer(releases: &[u32], deadlines: &[u32], count: usize) -> Answ
     Answer::Accepted
 }
 
-// What the windows in two columns answer: the first that is reversed, else the first up to which they are of neither kind, else nothing refused; and
-// whether they are nested.
-pub fn columns_answer(releases: &[u32], deadlines: &[u32], count: usize) -> WindowReply
+// What the windows in two columns answer: the first that is bad, else the first up to which they are of neither kind, else nothing refused.
+pub fn columns_answer(releases: &[u32], deadlines: &[u32], count: usize) -> Answer
     requires { ⌜ count ≤ maxTasks ⌝ }
     requires { ⌜ (count ≤ length (now releases)) × (count ≤ length (now deadlines)) ⌝ }
-    ensures { λ r. ⌜ r .answer ≡ windowsAnswer (windowAt (now (releases .entry)) (now (deadlines .entry))) count ⌝ }
-    ensures { λ r. ⌜ r .nested ≡ acceptedNested (windowAt (now (releases .entry)) (now (deadlines .entry))) count ⌝ }
+    ensures { λ r. ⌜ r ≡ windowsAnswer (windowAt (now (releases .entry)) (now (deadlines .entry))) count ⌝ }
 {
     let forward = forward_answer(releases, deadlines, count);
     let Answer::Accepted = forward else {
-        return WindowReply {
-            answer: forward,
-            nested: false,
-        };
+        return forward;
     };
     kind_answer(releases, deadlines, count)
 }
@@ -440,7 +415,7 @@ impl Table {
         Table::new(0, 0, 0, [NO_TASK; MAX_TASKS])
     }
 
-    // What the windows of a table answer: the first that is reversed, else the first up to which they are of neither kind, else nothing refused. Their
+    // What the windows of a table answer: the first that is bad, else the first up to which they are of neither kind, else nothing refused. Their
     // frames are put in two columns, so that the searches need not be lent the table.
     pub fn window_answer(self) -> Answer
         requires { ⌜ self .count ≤ maxTasks ⌝ }
@@ -456,7 +431,6 @@ impl Table {
             deadlines[k] = task.deadline;
             k += 1;
         }
-        let reply = columns_answer(&releases, &deadlines, count);
-        reply.answer
+        columns_answer(&releases, &deadlines, count)
     }
 }

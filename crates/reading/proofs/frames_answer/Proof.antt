@@ -7,7 +7,7 @@ use borrow.Author.Needs.{needs}
 use lib.ListN.{length, take, drop, length-take, length-drop}
 use lib.Seq.{take-all}
 use Rattle.base.specs.Limits.{maxTasks}
-use Rattle.table.specs.Kinds.{windowsAnswer, acceptedNested}
+use Rattle.table.specs.Kinds.{windowsAnswer}
 use Rattle.table.specs.WindowColumns.{windowAt}
 use Rattle.reading.proofs.frames_answer.Statement.{statement}
 use Rattle.reading.proofs.frames_answer.Tie as tie
@@ -31,10 +31,8 @@ returns : tie.Need-returns
 returns c =
     let a = c .before .before .before .before .args in
     let s : List ℕ = a .frames .now in
-    let whole = take-all (length s - maxTasks) (drop maxTasks s) (simp length-drop (omega arith)) in (
-      c .columns-answer .ensures .0 ∙ ap (λ (deadlines : List ℕ). windowsAnswer (windowAt (take maxTasks s) deadlines) (a .count)) whole,
-      c .columns-answer .ensures .1 ∙ ap (λ (deadlines : List ℕ). acceptedNested (windowAt (take maxTasks s) deadlines) (a .count)) whole,
-    )
+    let whole = take-all (length s - maxTasks) (drop maxTasks s) (simp length-drop (omega arith)) in
+    c .columns-answer .ensures ∙ ap (λ (deadlines : List ℕ). windowsAnswer (windowAt (take maxTasks s) deadlines) (a .count)) whole
 
 pub frames-answer-spec : {M : Type 1} → statement M
 frames-answer-spec =

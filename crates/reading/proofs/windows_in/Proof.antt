@@ -5,7 +5,7 @@ use borrow.Author.Needs.{needs}
 use Rattle.table.specs.Layout.{taskStart}
 use Rattle.table.specs.Reading.{countIn, taskIn}
 use Rattle.reading.specs.Frames.{FramesIn}
-use Rattle.reading.proofs.ReadLaws.{windows-taken, nested-taken}
+use Rattle.reading.proofs.ReadLaws.{windows-taken}
 use Rattle.reading.proofs.windows_in.Statement.{statement}
 use Rattle.reading.proofs.windows_in.Tie as tie
 
@@ -33,10 +33,8 @@ returns c =
     let start = c .before .before .before .before .before .before .before in
     let taken = c .before .before .before .before .take-frames in
     let count-is = start .pre .0 .0 in
-    let held : FramesIn (taskIn (start .args .file .now)) (countIn (start .args .file .now)) (taken .last .1 .1 .0) = λ k l. taken .ensures k (omega (arith, count-is)) in (
-      c .frames-answer .ensures .0 ∙ windows-taken (start .args .file .now) (start .args .header .count) (taken .last .1 .1 .0) (start .pre .1 .0) count-is held,
-      c .frames-answer .ensures .1 ∙ nested-taken (start .args .file .now) (start .args .header .count) (taken .last .1 .1 .0) (start .pre .1 .0) count-is held,
-    )
+    let held : FramesIn (taskIn (start .args .file .now)) (countIn (start .args .file .now)) (taken .last .1 .1 .0) = λ k l. taken .ensures k (omega (arith, count-is)) in
+    c .frames-answer .ensures ∙ windows-taken (start .args .file .now) (start .args .header .count) (taken .last .1 .1 .0) (start .pre .1 .0) count-is held
 
 pub windows-in-spec : {M : Type 1} → statement M
 windows-in-spec =

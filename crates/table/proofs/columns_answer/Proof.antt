@@ -2,7 +2,7 @@
 use mathlib.Core.Path.{_∙_, sym, ap}
 use borrow.Author.Needs.{needs}
 use Rattle.table.specs.Answers.{isAccepted}
-use Rattle.table.specs.Kinds.{windowsAnswer, acceptedNested}
+use Rattle.table.specs.Kinds.{windowsAnswer}
 use Rattle.table.proofs.AnswerLaws.{told-refused, first-refuses, first-accepts}
 use Rattle.table.proofs.columns_answer.Statement.{statement}
 use Rattle.table.proofs.columns_answer.Tie as tie
@@ -14,22 +14,19 @@ enum-told : tie.Need-enum-told
 enum-told c = search needs
 
 returns : tie.Need-returns
-unfolding windowsAnswer acceptedNested
+unfolding windowsAnswer
 returns c =
     let forward = c .before .forward-answer .ensures in
     let refused = told-refused (c .before .forward-answer .result) (c .match .keys2) in
-    let answer = forward ∙ first-refuses _ _ (ap isAccepted (sym forward) ∙ refused) in
-    (answer, rw (← answer, refused))
+    forward ∙ first-refuses _ _ (ap isAccepted (sym forward) ∙ refused)
 
 kind-answer-requires : tie.Need-kind-answer-requires
 kind-answer-requires c κs = search needs
 
 returns-2 : tie.Need-returns-2
-unfolding windowsAnswer acceptedNested
+unfolding windowsAnswer
 returns-2 c =
-    let kind = c .kind-answer .ensures in
-    let answer = first-accepts _ _ _ (sym (c .before .before .before .forward-answer .ensures) ∙ c .before .enum-told .given .1) (kind .0) in
-    (answer, kind .1 ∙ rw (← answer, kind .0))
+    first-accepts _ _ _ (sym (c .before .before .before .forward-answer .ensures) ∙ c .before .enum-told .given .1) (c .kind-answer .ensures)
 
 pub columns-answer-spec : {M : Type 1} → statement M
 columns-answer-spec =

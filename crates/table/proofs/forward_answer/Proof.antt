@@ -6,16 +6,16 @@ use Rattle.table.proofs.AnswerLaws.{found-refuses, not-found}
 use Rattle.table.proofs.forward_answer.Statement.{statement}
 use Rattle.table.proofs.forward_answer.Tie as tie
 
-first-reversed-requires : tie.Need-first-reversed-requires
-first-reversed-requires c κs = search needs
+first-bad-window-requires : tie.Need-first-bad-window-requires
+first-bad-window-requires c κs = search needs
 
 returns : tie.Need-returns
 unfolding forwardAnswer
-returns c = found-refuses Window _ _ _ (c .before .first-reversed .ensures) (c .if1 .taken)
+returns c = found-refuses Window _ _ _ (c .before .first-bad-window .ensures) (c .if1 .taken)
 
 returns-2 : tie.Need-returns-2
 unfolding forwardAnswer
-returns-2 c = not-found Window _ _ _ (c .before .first-reversed .ensures) (c .if1 .left)
+returns-2 c = not-found Window _ _ _ (c .before .first-bad-window .ensures) (c .if1 .left)
 
 pub forward-answer-spec : {M : Type 1} → statement M
-forward-answer-spec = tie.close (tie.spec first-reversed-requires returns returns-2)
+forward-answer-spec = tie.close (tie.spec first-bad-window-requires returns returns-2)

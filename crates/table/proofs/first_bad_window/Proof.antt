@@ -1,16 +1,16 @@
--- `table::first_reversed` meets its contract: a search from the first position upwards.
+-- `table::first_bad_window` meets its contract: a search from the first position upwards.
 use Prim.Native.Nat.{_-_}
 use mathlib.Core.Path.{sym, _∙_}
 use native.Mathlib.Omega.{arith}
 use borrow.Author.Needs.{needs}
 use Rattle.base.proofs.LowestLaws.{Searched, search-start, search-found, search-passed, search-end}
-use Rattle.table.specs.Windows.{reversed}
+use Rattle.table.specs.Windows.{badWindow}
 use Rattle.table.specs.WindowColumns.{windowAt}
-use Rattle.table.proofs.first_reversed.Statement.{statement}
-use Rattle.table.proofs.first_reversed.Tie as tie
+use Rattle.table.proofs.first_bad_window.Statement.{statement}
+use Rattle.table.proofs.first_bad_window.Tie as tie
 
 abbrev Inv-loop : tie.InvT-loop
-Inv-loop releases deadlines count k₀ k = Searched (λ k. reversed (windowAt releases deadlines k)) count k
+Inv-loop releases deadlines count k₀ k = Searched (λ k. badWindow (windowAt releases deadlines k)) count k
 
 abbrev μ-loop : tie.MeasureT-loop
 μ-loop releases deadlines count k₀ k = count - k
@@ -30,11 +30,11 @@ mul-t10 c = omega arith
 shared-slice-read-t12 : tie.Need-shared-slice-read-t12 Inv-loop μ-loop
 shared-slice-read-t12 c = omega arith
 
-is-reversed-requires : tie.Need-is-reversed-requires Inv-loop μ-loop
-is-reversed-requires c κs = search needs
+is-bad-window-requires : tie.Need-is-bad-window-requires Inv-loop μ-loop
+is-bad-window-requires c κs = search needs
 
 returns : tie.Need-returns Inv-loop μ-loop
-returns c = search-found _ _ _ (c .before .before .before .before .before .loop .inv) (omega arith) (sym (c .before .is-reversed .ensures) ∙ c .if1 .taken)
+returns c = search-found _ _ _ (c .before .before .before .before .before .loop .inv) (omega arith) (sym (c .before .is-bad-window .ensures) ∙ c .if1 .taken)
 
 add-k : tie.Need-add-k Inv-loop μ-loop
 add-k c = omega arith
@@ -43,13 +43,13 @@ loop-less : tie.Need-loop-less Inv-loop μ-loop
 loop-less c = omega arith
 
 loop-again : tie.Need-loop-again Inv-loop μ-loop
-loop-again c = search-passed _ _ _ (c .before .before .before .before .before .loop .inv) (omega arith) (sym (c .before .is-reversed .ensures) ∙ c .if1 .left)
+loop-again c = search-passed _ _ _ (c .before .before .before .before .before .loop .inv) (omega arith) (sym (c .before .is-bad-window .ensures) ∙ c .if1 .left)
 
 returns-2 : tie.Need-returns-2 Inv-loop μ-loop
 returns-2 c = search-end _ _ _ (c .before .loop .inv) (omega arith)
 
-pub first-reversed-spec : {M : Type 1} → statement M
-first-reversed-spec =
+pub first-bad-window-spec : {M : Type 1} → statement M
+first-bad-window-spec =
     tie.close
     (tie.spec
     Inv-loop
@@ -59,7 +59,7 @@ first-reversed-spec =
     shared-slice-read-t9
     mul-t10
     shared-slice-read-t12
-    is-reversed-requires
+    is-bad-window-requires
     returns
     add-k
     loop-less
