@@ -1,2 +1,3 @@
 pub mod FileRead
 pub mod QueryReplies
+pub mod ReplySamples

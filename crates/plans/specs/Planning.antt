@@ -89,13 +89,17 @@ pub record LentLists : Type 0 where
 abbrev pub lent : List ℕ → List ℕ → List ℕ → List ℕ → LentLists
 lent marks starts ends tasks = record { marks = marks; starts = starts; ends = ends; tasks = tasks }
 
+-- the most runs of a plan of n tasks: 'For n tasks there are never more than 2n − 1.'
+abbrev pub mostRuns : ℕ → ℕ
+mostRuns n = 2 * n - 1
+
 -- lists that are just long enough for n tasks
 abbrev pub listsFor : ℕ → LentLists
-listsFor n = lent (replicate n 0) (replicate (2 * n - 1) 0) (replicate (2 * n - 1) 0) (replicate (2 * n - 1) 0)
+listsFor n = lent (replicate n 0) (replicate (mostRuns n) 0) (replicate (mostRuns n) 0) (replicate (mostRuns n) 0)
 
 -- 9: 'a lent list is too short: n marks, 2n − 1 runs'; from the lengths of the lists
 unfoldable pub tooShort : ℕ → ℕ → ℕ → ℕ → ℕ → Bool
-tooShort n marks starts ends tasks = or (ltb marks n) (or (ltb starts (2 * n - 1)) (or (ltb ends (2 * n - 1)) (ltb tasks (2 * n - 1))))
+tooShort n marks starts ends tasks = or (ltb marks n) (or (ltb starts (mostRuns n)) (or (ltb ends (mostRuns n)) (ltb tasks (mostRuns n))))
 
 -- the same of lent lists
 abbrev pub shortLists : ℕ → LentLists → Bool

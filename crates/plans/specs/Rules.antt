@@ -24,7 +24,7 @@ use Rattle.schedule.specs.Runs.{noRun, ownerOf, Together}
 use Rattle.schedule.specs.Judging.{discardedCount}
 use Rattle.orders.specs.KindOrder.{kindBefore}
 use Rattle.plans.specs.declared.Planned.{Planned}
-use Rattle.plans.specs.Planning.{LentLists}
+use Rattle.plans.specs.Planning.{LentLists, mostRuns}
 use Rattle.plans.specs.Demands.{marksIn, runsIn}
 
 -- Up to a task, in the order of the table's kind.
@@ -158,7 +158,7 @@ pub record LongestStretch (owner : Owner) (run : Run) : Type 0 where
 pub record LongestRuns (t : Table) (runs : List Run) : Type 0 where
   pub stretches : All (LongestStretch (ownerOf runs)) runs
   pub by-start : (k : ℕ) → suc k < length runs → getD runs k noRun .start < getD runs (suc k) noRun .start
-  pub few : length runs < 2 * t .count
+  pub few : length runs ≤ mostRuns (t .count)
 
 -- The rules as clauses of the plan call.
 

@@ -7,7 +7,9 @@ use lib.Dec.{eqb}
 use lib.ListN.{length}
 use borrow.Author.Tests.{eqb-true, le-ltb, lt-ltb, le-leb}
 use Rattle.base.specs.Limits.{maxRuns}
+use Rattle.base.specs.Tests.{and}
 use Rattle.base.specs.Members.{All}
+use Rattle.base.specs.Places.{placesFrom, places}
 use Rattle.base.proofs.MemberLaws.{all-append}
 use Rattle.table.specs.declared.Task.{Task}
 use Rattle.table.specs.declared.Table.{Table}
@@ -15,25 +17,30 @@ use Rattle.table.specs.declared.Written.{Written}
 use Rattle.table.specs.declared.Answer.the-variants.{Accepted}
 use Rattle.table.specs.declared.Reading.{Reading}
 use Rattle.table.specs.Tables.{tableOf}
-use Rattle.table.specs.Answers.{numberOf, placeOf, wrote}
+use Rattle.table.specs.Answers.{numberOf, placeOf}
 use Rattle.table.specs.Kinds.{isNested}
-use Rattle.table.specs.Reading.{reading}
+use Rattle.table.specs.Reading.{tableIn, reading}
 use Rattle.table.specs.Writing.{fileOf, writeReply}
 use Rattle.table.proofs.TableLaws.{tableOf-canonical}
 use Rattle.table.proofs.FileLaws.{accepted-legal}
 use Rattle.table.proofs.RoundTrip.{written-read}
 use Rattle.schedule.specs.declared.RunsAnswer.the-variants as checked
+use Rattle.schedule.specs.Ticks.{one}
 use Rattle.schedule.specs.Runs.{tooMany}
 use Rattle.schedule.specs.Judging.{noneEmpty, followFrom, inOrder}
 use Rattle.schedule.specs.RunCheck.{runsAnswer, runsNumber, runsPlace}
 use Rattle.schedule.specs.BusyCount.{shared, busySum, busyReply}
 use Rattle.schedule.specs.Queries.{touching, stretchOf}
 use Rattle.schedule.proofs.CheckLaws.{ordered-accepted}
+use Rattle.plans.specs.Planning.{listsFor, planReply, listsAfter}
+use Rattle.printed_plan.specs.Printing.{printLength, printedOver}
 use Rattle.samples.specs.Refusals.{
   Call,
   reads,
   writes,
+  writesOver,
   moves,
+  movesOver,
   plans,
   judges,
   busyCounts,
@@ -42,18 +49,21 @@ use Rattle.samples.specs.Refusals.{
   asksFrom,
   asksTouching,
   prints,
+  printsNow,
+  printsOver,
+  limits,
   CallSays,
-  counted,
   tickRuns,
   computedRows,
   largeRows,
   refusals,
 }
-use Rattle.samples.specs.SampleTests.{sameRuns, sameTable, callMet}
-use Rattle.samples.proofs.SameLaws.{pass-all, both, three, numbers-same, runs-same, table-same, planned-same, written-same, judged-same, busy-same}
+use Rattle.samples.specs.Inputs.{task, bytesWritten, counted}
+use Rattle.samples.specs.SampleTests.{sameNumbers, sameRuns, sameTable, sameLists, planParts, callMet}
+use Rattle.samples.proofs.SameLaws.{pass-all, both, three, numbers-same, runs-same, table-same, lists-same, planned-same, written-same, judged-same, busy-same}
 use Rattle.samples.specs.Samples.{p8Table, p8File, p8Marks, p8Runs}
 use Rattle.samples.proofs.Computed.{all-pass}
-use Rattle.samples.proofs.LaunchSamples.{planned-later}
+use Rattle.samples.proofs.LaunchSamples.{planned-later, lists-written}
 use Rattle.samples.proofs.SampleLaws.{p8-at-0}
 
 -- what the test of a call says
@@ -63,8 +73,12 @@ call-says (reads file number place t) e =
     let answer = reading file .answer in
     three (eqb (numberOf answer) number) (eqb (placeOf answer) place) (sameTable (reading file .table) t) (eqb-true _ _) (eqb-true _ _) (table-same _ _) e
 call-says (writes t room reply) e = written-same _ _ e
+call-says (writesOver t out after) e = numbers-same _ _ e
 call-says (moves file shift room reply) e = written-same _ _ e
-call-says (plans file launch lists reply) e = planned-same _ _ e
+call-says (movesOver file shift out after) e = numbers-same _ _ e
+call-says (plans file launch lists reply after) e =
+    both (sameNumbers (planParts (planReply launch file lists)) (planParts reply)) (sameLists (listsAfter launch (tableIn file) reply lists) after)
+    (planned-same _ _) (lists-same _ _) e
 call-says (judges file launch marks runs reply) e = judged-same _ _ e
 call-says (busyCounts runs a b reply) e = busy-same _ _ e
 call-says (checks runs number place) e =
@@ -76,20 +90,24 @@ call-says (asksTouching runs a b first part) e =
     let at = stretchOf runs a b in
     three (sameRuns (touching runs a b) part) (eqb (at .first) first) (eqb (at .runs) (length part)) (runs-same _ _) (eqb-true _ _) (eqb-true _ _) e
 call-says (prints input text) e = numbers-same _ _ e
+call-says (printsNow input text) e = numbers-same _ _ e
+call-says (printsOver text out bytes after) e =
+    both (eqb (printLength text (length out)) bytes) (sameNumbers (printedOver text out) after) (eqb-true _ _) (numbers-same _ _) e
+call-says (limits limit number) e = eqb-true _ _ e
 
 -- every row whose test is computed
 computed-say : All CallSays computedRows
 computed-say = pass-all CallSays callMet computedRows call-says (all-pass .1)
 
 -- a table that is written is read from its file
-written-reads : (count p q : ℕ) (task : ℕ → Task) (room bytes : ℕ) → writeReply (tableOf count p q task) room ≡ wrote bytes
+written-reads : (count p q : ℕ) (task : ℕ → Task) (room bytes : ℕ) → writeReply (tableOf count p q task) room ≡ bytesWritten bytes
     → CallSays (reads (fileOf (tableOf count p q task)) 0 0 (tableOf count p q task))
 unfolding tableOf
 written-reads count p q task room bytes e =
     let t : Table = tableOf count p q task in
-    let r : reading (fileOf t) ≡ record { answer = Accepted; nested = isNested t; table = t } =
+    let r : reading (fileOf t) ≡ record { answer = Accepted; table = t } =
     written-read (accepted-legal t room (ap (λ (w : Written). w .number) e) .legal)
-    ∙ ap {B = Reading} (λ (x : Table). record { answer = Accepted; nested = isNested x; table = x }) (tableOf-canonical count p q task) in
+    ∙ ap {B = Reading} (λ (x : Table). record { answer = Accepted; table = x }) (tableOf-canonical count p q task) in
     rw r (refl, refl, refl)
 
 -- Runs of one tick each, where none starts before the previous end.
@@ -123,13 +141,14 @@ ticks-counted n h = rw (ticks-accepted n h, ticks-sum 0 n 0 n (omega arith) (ome
 
 -- The refusals: each call of the table gets the whole reply of its row.
 pub refusal-samples : All CallSays refusals
-unfolding tableOf
+unfolding tableOf places placesFrom
 refusal-samples =
+    let p8-latest = planned-later 86_399_999 p8Table p8File 1 2 p8Marks p8Runs refl p8-at-0 in
     let ticks-in-limit = ticks-accepted 4_096 (omega arith) in
     all-append CallSays computedRows largeRows computed-say (
-      planned-later 86_399_999 p8Table p8File 1 2 p8Marks p8Runs refl p8-at-0 .1,
+      (p8-latest .1, lists-written 86_399_999 p8Table p8File 1 2 p8Marks _ (listsFor 3) p8-latest),
       (
-        written-reads 64 1 1 _ 500 500 (computed-say .0),
+        written-reads 64 1 1 (λ k. task 0 1 0 0) 500 500 (computed-say .0),
         ((ap runsNumber ticks-in-limit, ap runsPlace ticks-in-limit), (ticks-counted 4_096 (omega arith), tt)),
       ),
     )

@@ -20,7 +20,8 @@ use Rattle.schedule.specs.Ticks.{one}
 use Rattle.schedule.specs.Runs.{startsOf, endsOf, tasksOf}
 use Rattle.schedule.proofs.ColumnLaws.{columns-runs}
 use Rattle.plans.specs.declared.Planned.{Planned}
-use Rattle.samples.specs.SampleTests.{allPass, sameNumbers, sameRuns, sameTasks, header, sameTable, planParts, writtenParts, judgedParts, busyParts}
+use Rattle.plans.specs.Planning.{LentLists, lent}
+use Rattle.samples.specs.SampleTests.{allPass, sameNumbers, sameRuns, sameTasks, header, sameTable, sameLists, planParts, writtenParts, judgedParts, busyParts}
 
 -- what every row says, from a test that every row passes
 pub pass-all : {A : Type 0} (P : A → Type 0) (test : A → Bool) (rows : List A) → ((row : A) → test row ≡ true → P row) → allPass test rows ≡ true → All P rows
@@ -69,6 +70,19 @@ unfolding sameTable
 table-same a b e =
     let z = both (sameNumbers (header a) (header b)) (sameTasks (a .tasks) (b .tasks)) (numbers-same _ _) (tasks-same _ _) e in
     ap₂ {C = Table} (λ (l : List ℕ) (tasks : List Task). record { count = getD l 0 0; p = getD l 1 0; q = getD l 2 0; tasks = tasks }) (z .0) (z .1)
+
+-- lent lists
+pub lists-same : (a b : LentLists) → sameLists a b ≡ true → a ≡ b
+unfolding sameLists
+lists-same a b e =
+    let z =
+    both (and (sameNumbers (a .marks) (b .marks)) (sameNumbers (a .starts) (b .starts)))
+    (and (sameNumbers (a .ends) (b .ends)) (sameNumbers (a .tasks) (b .tasks)))
+    (both (sameNumbers (a .marks) (b .marks)) (sameNumbers (a .starts) (b .starts)) (numbers-same _ _) (numbers-same _ _))
+    (both (sameNumbers (a .ends) (b .ends)) (sameNumbers (a .tasks) (b .tasks)) (numbers-same _ _) (numbers-same _ _))
+    e in
+    ap₂ {C = LentLists} (λ (marks starts : List ℕ). lent marks starts (a .ends) (a .tasks)) (z .0 .0) (z .0 .1)
+    ∙ ap₂ {C = LentLists} (λ (ends tasks : List ℕ). lent (b .marks) (b .starts) ends tasks) (z .1 .0) (z .1 .1)
 
 -- replies, by their parts
 pub planned-same : (a b : Planned) → sameNumbers (planParts a) (planParts b) ≡ true → a ≡ b

@@ -23,10 +23,10 @@ use Rattle.table.specs.Moving.{moveReply}
 use Rattle.schedule.specs.declared.Run.{Run}
 use Rattle.schedule.specs.Jobs.{jobAt}
 use Rattle.plans.specs.Planning.{listsFor, planReply, planMarks, planRuns}
+use Rattle.lines.specs.Ascii.{ascii, textOf}
 use Rattle.lines.specs.Text.{decimalWithin, decimal, fields, line}
 use Rattle.printed_plan.specs.Printing.{dropsFrom, dropLines, runLine, runLines, planLines}
 use Rattle.printed_plan.specs.ProgramInput.{launchIn, printedInput}
-use Rattle.samples.specs.Inputs.{ascii, textOf}
 use Rattle.samples.specs.Samples.{
   Sample,
   PlanSample,

@@ -1,27 +1,61 @@
--- How the samples write what is given and what is expected: tasks and tables by their numbers, and texts by their lines.
-use Prim.Native.Nat.{ℕ}
-use Prim.Native.Char.{code}
-use Prim.Native.String.{String, [] as noText, _∷_ as _then_}
+-- How the samples write what is given and what is expected: tasks, tables, runs, lists and replies, each by its plain numbers. None of the definitions that the
+-- samples are about is used here, so a reply that is expected says what it says whatever they are.
+use Prim.Native.Nat.{ℕ, _-_}
+use mathlib.Core.Bool.{true, false}
 use mathlib.Core.List.{List, [], _∷_, _++_}
-use lib.ListN.{length, getD}
+use lib.ListN.{length, replicate}
 use Rattle.table.specs.declared.Task.{Task}
 use Rattle.table.specs.declared.Table.{Table}
-use Rattle.table.specs.Tables.{noTask, tableOf}
+use Rattle.table.specs.declared.Written.{Written}
+use Rattle.schedule.specs.declared.Run.{Run}
+use Rattle.schedule.specs.declared.Judged.{Judged}
+use Rattle.schedule.specs.declared.Busy.{Busy}
+use Rattle.plans.specs.declared.Planned.{Planned}
+use Rattle.plans.specs.Planning.{LentLists}
 
 -- a task: release frame, deadline frame, mandatory ticks, optional ticks
 abbrev pub task : ℕ → ℕ → ℕ → ℕ → Task
 task release deadline mandatory optional = record { release = release; deadline = deadline; mandatory = mandatory; optional = optional }
 
--- the table of period p/q with these tasks, by position
+-- the table of period p/q with these tasks, by position: of its 64 places those beyond them are 0
 abbrev pub table : ℕ → ℕ → List Task → Table
-table p q tasks = tableOf (length tasks) p q (λ k. getD tasks k noTask)
+table p q tasks = record { count = length tasks; p = p; q = q; tasks = tasks ++ replicate (64 - length tasks) (task 0 0 0 0) }
 
--- the bytes of a text in ASCII
-unfoldable pub ascii : String → List ℕ
-ascii noText = []
-ascii (letter then text) = code letter ∷ ascii text
+-- a run by its start, its end and its task
+abbrev pub run : ℕ → ℕ → ℕ → Run
+run start end task = record { start = start; end = end; task = task }
 
--- the bytes of lines, a newline after each
-unfoldable pub textOf : List String → List ℕ
-textOf [] = []
-textOf (line ∷ lines) = ascii line ++ ascii "\n" ++ textOf lines
+-- the lists that are lent to planning, by what they hold
+abbrev pub listsOf : List ℕ → List ℕ → List ℕ → List ℕ → LentLists
+listsOf marks starts ends tasks = record { marks = marks; starts = starts; ends = ends; tasks = tasks }
+
+-- the replies of writing and of moving: a refusal, and the bytes written
+abbrev pub notWritten : ℕ → ℕ → Written
+notWritten number place = record { number = number; place = place; bytes = 0 }
+
+abbrev pub bytesWritten : ℕ → Written
+bytesWritten bytes = record { number = 0; place = 0; bytes = bytes }
+
+-- the replies of planning: a refusal, and a plan with its kept, discarded and number of runs
+abbrev pub notPlanned : ℕ → ℕ → Planned
+notPlanned number place = record { number = number; place = place; kept = 0; discarded = 0; runs = 0 }
+
+abbrev pub planWith : ℕ → ℕ → ℕ → Planned
+planWith kept discarded runs = record { number = 0; place = 0; kept = kept; discarded = discarded; runs = runs }
+
+-- the replies of judging: a refusal, a no, and a yes with its counts
+abbrev pub notJudged : ℕ → ℕ → Judged
+notJudged number place = record { number = number; place = place; yes = false; kept = 0; discarded = 0 }
+
+abbrev pub judgedNo : Judged
+judgedNo = record { number = 0; place = 0; yes = false; kept = 0; discarded = 0 }
+
+abbrev pub judgedYes : ℕ → ℕ → Judged
+judgedYes kept discarded = record { number = 0; place = 0; yes = true; kept = kept; discarded = discarded }
+
+-- the replies of the busy count: a refusal, and its sum
+abbrev pub notCounted : ℕ → ℕ → Busy
+notCounted number place = record { number = number; place = place; ticks = 0 }
+
+abbrev pub counted : ℕ → Busy
+counted ticks = record { number = 0; place = 0; ticks = ticks }

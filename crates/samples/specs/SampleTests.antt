@@ -14,8 +14,8 @@ use Rattle.table.specs.Tables.{taskAt, taskRow}
 use Rattle.table.specs.Answers.{numberOf, placeOf}
 use Rattle.table.specs.Kinds.{nestingAnswer}
 use Rattle.table.specs.Reading.{tableIn, reading}
-use Rattle.table.specs.Writing.{fileOf, writeReply}
-use Rattle.table.specs.Moving.{moveReply}
+use Rattle.table.specs.Writing.{fileOf, writeReply, writtenOver}
+use Rattle.table.specs.Moving.{moveReply, movedOver}
 use Rattle.schedule.specs.declared.Run.{Run}
 use Rattle.schedule.specs.declared.Judged.{Judged}
 use Rattle.schedule.specs.declared.Busy.{Busy}
@@ -27,10 +27,31 @@ use Rattle.schedule.specs.BusyCount.{busyReply}
 use Rattle.schedule.specs.RunCheck.{runsAnswer, runsNumber, runsPlace}
 use Rattle.schedule.specs.Queries.{runAtTick, runFromTick, touching, stretchOf}
 use Rattle.plans.specs.declared.Planned.{Planned}
-use Rattle.plans.specs.Planning.{listsFor, planReply, planMarks, planRuns}
+use Rattle.plans.specs.Planning.{LentLists, listsFor, planReply, planMarks, planRuns, listsAfter}
+use Rattle.printed_plan.specs.Printing.{printLength, printedOver}
 use Rattle.printed_plan.specs.ProgramInput.{printedInput}
+use Rattle.printed_plan.specs.NowText.{printedNow}
 use Rattle.samples.specs.Samples.{Sample, PlanSample, clock, plan, window, move, text, nesting}
-use Rattle.samples.specs.Refusals.{Call, reads, writes, moves, plans, judges, busyCounts, checks, asksAt, asksFrom, asksTouching, prints, foundParts}
+use Rattle.samples.specs.Refusals.{
+  Call,
+  reads,
+  writes,
+  writesOver,
+  moves,
+  movesOver,
+  plans,
+  judges,
+  busyCounts,
+  checks,
+  asksAt,
+  asksFrom,
+  asksTouching,
+  prints,
+  printsNow,
+  printsOver,
+  limits,
+  foundParts,
+}
 
 -- every row of a list passes
 unfoldable pub allPass : {A : Type 0} → (A → Bool) → List A → Bool
@@ -60,6 +81,12 @@ header t = t .count ∷ t .p ∷ t .q ∷ []
 
 unfoldable pub sameTable : Table → Table → Bool
 sameTable a b = and (sameNumbers (header a) (header b)) (sameTasks (a .tasks) (b .tasks))
+
+-- two sets of lent lists are, list by list
+unfoldable pub sameLists : LentLists → LentLists → Bool
+sameLists a b =
+    and (and (sameNumbers (a .marks) (b .marks)) (sameNumbers (a .starts) (b .starts)))
+    (and (sameNumbers (a .ends) (b .ends)) (sameNumbers (a .tasks) (b .tasks)))
 
 -- the parts of a reply: planning's, writing's and moving's, judging's, the busy count's
 abbrev pub planParts : Planned → List ℕ
@@ -105,8 +132,11 @@ unfoldable pub callMet : Call → Bool
 callMet (reads file number place t) =
     and (eqb (numberOf (reading file .answer)) number) (and (eqb (placeOf (reading file .answer)) place) (sameTable (reading file .table) t))
 callMet (writes t room reply) = sameNumbers (writtenParts (writeReply t room)) (writtenParts reply)
+callMet (writesOver t out after) = sameNumbers (writtenOver t out) after
 callMet (moves file shift room reply) = sameNumbers (writtenParts (moveReply file shift room)) (writtenParts reply)
-callMet (plans file launch lists reply) = sameNumbers (planParts (planReply launch file lists)) (planParts reply)
+callMet (movesOver file shift out after) = sameNumbers (movedOver file shift out) after
+callMet (plans file launch lists reply after) =
+    and (sameNumbers (planParts (planReply launch file lists)) (planParts reply)) (sameLists (listsAfter launch (tableIn file) reply lists) after)
 callMet (judges file launch marks runs reply) = sameNumbers (judgedParts (judged launch file marks runs)) (judgedParts reply)
 callMet (busyCounts runs a b reply) = sameNumbers (busyParts (busyReply runs a b)) (busyParts reply)
 callMet (checks runs number place) = and (eqb (runsNumber (runsAnswer runs)) number) (eqb (runsPlace (runsAnswer runs)) place)
@@ -114,4 +144,7 @@ callMet (asksAt runs tick numbers) = sameNumbers (foundParts (runAtTick runs tic
 callMet (asksFrom runs tick numbers) = sameNumbers (foundParts (runFromTick runs tick)) numbers
 callMet (asksTouching runs a b first part) =
     and (sameRuns (touching runs a b) part) (and (eqb (stretchOf runs a b .first) first) (eqb (stretchOf runs a b .runs) (length part)))
-callMet (prints input bytes) = sameNumbers (printedInput input) bytes
+callMet (prints input due) = sameNumbers (printedInput input) due
+callMet (printsNow input due) = sameNumbers (printedNow input) due
+callMet (printsOver due out bytes after) = and (eqb (printLength due (length out)) bytes) (sameNumbers (printedOver due out) after)
+callMet (limits limit number) = eqb limit number

@@ -8,24 +8,23 @@ use mathlib.Core.Path.{_≡_}
 use mathlib.Core.List.{List, [], _∷_, _++_, map}
 use lib.ListN.{length}
 use lib.IntN.{ℤ, negsuc}
+use Rattle.lines.specs.Ascii.{textOf}
 use Rattle.clock.specs.Clock.{releaseTick, deadlineTick}
 use Rattle.clock.specs.ClockSamples.{ClockSample, clockSamples}
 use Rattle.table.specs.declared.Table.{Table}
 use Rattle.table.specs.declared.Written.{Written}
 use Rattle.table.specs.declared.Answer.the-variants.{Kind}
 use Rattle.table.specs.Tables.{taskAt}
-use Rattle.table.specs.Answers.{declined}
 use Rattle.table.specs.Kinds.{nestingAnswer}
 use Rattle.table.specs.Reading.{tableIn}
 use Rattle.table.specs.Writing.{fileOf}
 use Rattle.table.specs.Moving.{moveReply}
 use Rattle.schedule.specs.declared.Run.{Run}
 use Rattle.schedule.specs.Jobs.{jobAt}
-use Rattle.schedule.specs.Runs.{runOf as run}
 use Rattle.plans.specs.declared.Planned.{Planned}
-use Rattle.plans.specs.Planning.{planDeclined, planMade, listsFor, planReply, planMarks, planRuns}
+use Rattle.plans.specs.Planning.{listsFor, planReply, planMarks, planRuns}
 use Rattle.printed_plan.specs.ProgramInput.{printedInput}
-use Rattle.samples.specs.Inputs.{task, table, textOf}
+use Rattle.samples.specs.Inputs.{task, table, run, notWritten, notPlanned, planWith}
 
 -- a table with its file, a launch tick, the reply of planning into lists that are just long enough, and of a plan its marks and runs
 pub record PlanSample : Type 0 where
@@ -72,7 +71,7 @@ pub data Sample : Type 0 where
 -- a table and its file with the plan expected at a launch tick: kept, discarded, marks, runs
 abbrev pub plannedAt : ℕ → Table → List ℕ → ℕ → ℕ → List ℕ → List Run → Sample
 plannedAt launch t file kept discarded marks runs =
-    plan record { table = t; file = file; launch = launch; reply = planMade kept discarded (length runs); marks = marks; runs = runs }
+    plan record { table = t; file = file; launch = launch; reply = planWith kept discarded (length runs); marks = marks; runs = runs }
 
 -- the same with launch 0
 abbrev pub planned : Table → List ℕ → ℕ → ℕ → List ℕ → List Run → Sample
@@ -81,7 +80,7 @@ planned = plannedAt 0
 -- a table and its file that planning refuses at a launch tick
 abbrev pub refusedAt : ℕ → Table → List ℕ → ℕ → ℕ → Sample
 refusedAt launch t file number place =
-    plan record { table = t; file = file; launch = launch; reply = planDeclined number place; marks = []; runs = [] }
+    plan record { table = t; file = file; launch = launch; reply = notPlanned number place; marks = []; runs = [] }
 
 -- the same with launch 0
 abbrev pub refused : Table → List ℕ → ℕ → ℕ → Sample
@@ -234,7 +233,7 @@ computedSamples =
     ∷ window record { table = p11Table; launch = 0; position = 0; release = 3; deadline = 2 }
     ∷ refused p11Table (0x02 ∷ 0x00 ∷ 0xA0 ∷ 0x08 ∷ 0x00 ∷ 0x01 ∷ 0x00 ∷ 0x01 ∷ 0x00 ∷ 0x02 ∷ 0x00 ∷ 0x00 ∷ []) 8 0
     -- P12: P8's table moved by −1; refusal 10, place 0
-    ∷ move record { table = p8Table; file = p8File; shift = negsuc 0; reply = declined 10 0 }
+    ∷ move record { table = p8Table; file = p8File; shift = negsuc 0; reply = notWritten 10 0 }
     -- The rows of request 1.
     -- 7 with its new place: cut after task 1 the table is similar, cut after task 2 it is of neither kind; refusal 7, place 2
     ∷ refused neitherTable

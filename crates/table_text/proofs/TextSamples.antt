@@ -1,19 +1,52 @@
--- The sample texts give what they should, and a sample table has the text that it should: the definitions are computed on each.
+-- The sample texts give what they should, and so do the sample table and the replies: the definitions are computed on each.
 use mathlib.Core.Path.{_≡_, refl}
 use mathlib.Core.List.{map}
-use Rattle.base.specs.Lowest.{lowestFrom, lowest}
+use lib.ListN.{length}
+use Rattle.base.specs.Lowest.{lowestFrom, lowest, someBelow}
 use Rattle.base.specs.Places.{placesFrom, places}
+use Rattle.base.specs.Lent.{contentAfter}
+use Rattle.bits.specs.Bits.{bitAt, number, field, bitsOf, bitIn, bytesFrom, bytesFor, pack}
+use Rattle.bits.specs.Rows.{rowBits, rowsBits}
 use Rattle.table.specs.Tables.{noTable, taskAt, tableOf}
+use Rattle.table.specs.Layout.{taskStart, fileLength, badCount, badPeriod}
+use Rattle.table.specs.Windows.{badWindow, contains, nested, noLater, similar}
+use Rattle.table.specs.Kinds.{failsEarlier, pairwise, ofNeitherKind, forwardAnswer, kindAnswer, windowsAnswer, windowAnswer}
+use Rattle.table.specs.Reading.{countIn, pIn, qIn, taskFrom, taskIn, tableIn, paddingSet, frontAnswer, headAnswer, readAnswer}
+use Rattle.table.specs.Writing.{headBits, rowsFile, fileOf, tooWide, firstTooWide, rowsReply, writeReply, writtenOver}
+use Rattle.lines.specs.Ascii.{ascii, textOf}
 use Rattle.lines.specs.Text.{decimalWithin, decimal, fields, line}
 use Rattle.lines.specs.Splitting.{isBlank, isDigit, withFirst, cutAt, nonempty, linesOf, wordsOf, valueAfter, valueOf, allDigits, isNumber, allNumbers, numbersOf}
-use Rattle.table_text.specs.TableText.{lineAt, numbersAt, countSaid, pSaid, qSaid, due, lineWrong, linesLooked, rightLines, tableSaid, parsed, headLine, taskLine, taskLines, tableText}
-use Rattle.table_text.specs.TextSamples.{TextSample, textSamples, printedTable, printedText}
+use Rattle.table_text.specs.TableText.{lineAt, numbersAt, countSaid, pSaid, qSaid, due, lineWrong, linesLooked, rightLines, tableSaid, parsed, headLine, taskLine, taskLines, tableText, maxTableText, aboutTask, refusedLine}
+use Rattle.table_text.specs.Conversions.{textReply, textOver, fileReply, fileOver}
+use Rattle.table_text.specs.TextSamples.{TextSample, textSamples, FileSample, fileSamples, ShownSample, shownSamples, RefusedLineSample, refusedLineSamples, p8Table, p8Text}
 
+-- The sample texts give what they should.
 pub samples-parsed : map (λ (s : TextSample). parsed (s .text)) textSamples ≡ map (λ (s : TextSample). s .gives) textSamples
-unfolding textSamples parsed tableSaid rightLines linesLooked lineWrong due qSaid pSaid countSaid numbersAt lineAt numbersOf allNumbers isNumber allDigits valueOf valueAfter wordsOf linesOf nonempty cutAt withFirst isDigit isBlank tableOf noTable places placesFrom lowest lowestFrom
+unfolding textSamples textOf ascii parsed tableSaid rightLines linesLooked lineWrong due qSaid pSaid countSaid numbersAt lineAt numbersOf allNumbers isNumber allDigits valueOf valueAfter wordsOf linesOf nonempty cutAt withFirst isDigit isBlank tableOf noTable places placesFrom lowest lowestFrom
 samples-parsed = refl
 
 -- A sample table has the text that it should.
-pub sample-printed : tableText printedTable ≡ printedText
-unfolding printedTable printedText tableText headLine taskLine taskLines line fields decimal decimalWithin tableOf taskAt places placesFrom
+pub sample-printed : tableText p8Table ≡ p8Text
+unfolding textOf ascii tableText headLine taskLine taskLines line fields decimal decimalWithin tableOf taskAt places placesFrom
 sample-printed = refl
+
+-- The replies of making a file from a text, and what the list holds then.
+pub samples-filed : (map (λ (s : FileSample). fileReply (s .text) (length (s .out))) fileSamples ≡ map (λ (s : FileSample). s .reply) fileSamples)
+    × (map (λ (s : FileSample). fileOver (s .text) (s .out)) fileSamples ≡ map (λ (s : FileSample). s .after) fileSamples)
+unfolding fileSamples textOf ascii fileReply fileOver writtenOver writeReply rowsReply firstTooWide tooWide fileOf rowsFile headBits windowAnswer windowsAnswer kindAnswer forwardAnswer ofNeitherKind pairwise failsEarlier similar noLater nested contains badWindow badPeriod badCount fileLength contentAfter parsed tableSaid rightLines linesLooked lineWrong due qSaid pSaid countSaid numbersAt lineAt numbersOf allNumbers isNumber allDigits valueOf valueAfter wordsOf linesOf nonempty cutAt withFirst isDigit isBlank tableOf taskAt noTable rowsBits rowBits pack bytesFrom bytesFor bitIn bitsOf number someBelow places placesFrom lowest lowestFrom
+samples-filed = (refl, refl)
+
+-- The replies of making a text from a file, and what the list holds then.
+pub samples-shown : (map (λ (s : ShownSample). textReply (s .file) (length (s .out))) shownSamples ≡ map (λ (s : ShownSample). s .reply) shownSamples)
+    × (map (λ (s : ShownSample). textOver (s .file) (s .out)) shownSamples ≡ map (λ (s : ShownSample). s .after) shownSamples)
+unfolding shownSamples textOf ascii textReply textOver contentAfter tableText headLine taskLine taskLines line fields decimal decimalWithin readAnswer headAnswer frontAnswer paddingSet tableIn taskIn taskFrom qIn pIn countIn taskStart windowAnswer windowsAnswer kindAnswer forwardAnswer ofNeitherKind pairwise failsEarlier similar noLater nested contains badWindow badPeriod badCount fileLength tableOf taskAt noTable bytesFor field number bitAt someBelow places placesFrom lowest lowestFrom
+samples-shown = (refl, refl)
+
+-- The bound on the bytes of a table's text, and the lines that refusals of writing are about.
+pub text-bound : maxTableText ≡ 5_460
+text-bound = refl
+
+pub samples-refused-line : map (λ (s : RefusedLineSample). refusedLine (s .number) (s .place)) refusedLineSamples
+    ≡ map (λ (s : RefusedLineSample). s .line) refusedLineSamples
+unfolding refusedLineSamples refusedLine aboutTask
+samples-refused-line = refl

@@ -15,7 +15,8 @@ use Rattle.table_text.specs.TableText.{parsed, rightTable, tableText, ma
 
 -- From a file to the text of its table.
 
--- the reply, for a list of `room` bytes: reading's refusals, then 9 for a list that is shorter than the longest text, and else the bytes of the text
+-- the reply, for a list of `room` bytes: reading's refusals, then 9 for a list that is shorter than the bound of every text, and else the bytes of the
+-- text
 unfoldable pub textReply : List ℕ → ℕ → Written
 textReply file room =
     pick (isAccepted (readAnswer file))

@@ -88,7 +88,8 @@ taskLines (task ∷ tasks) = taskLine task ++ taskLines tasks
 unfoldable pub tableText : Table → List ℕ
 tableText t = headLine t ++ taskLines (places (taskAt t) (t .count))
 
--- the most bytes of a table's text: no line is longer than four numbers, each with a byte behind it
+-- a bound that every table's text keeps, whatever its numbers of 64 bits, and not the most that one has: no line is longer than four numbers of 20 digits,
+-- each with a byte behind it
 abbrev pub maxTableText : ℕ
 maxTableText = (1 + maxTasks) * (4 * maxField)
 
