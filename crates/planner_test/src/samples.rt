@@ -1,6 +1,7 @@
 // The sample flights: P1 to P12 of document 01, P9 with the lengths chosen in `samples`, and variants, which have the number of their sample.
 use crate::judges;
 use plans::Planned;
+use std::num::wrapping_add_u32;
 
 // The places of the lent lists, and what stands at each before a call, in the marks and in the columns of the runs.
 const ROOM: usize = 6;
@@ -93,8 +94,9 @@ fn plan_within(sample: u32, file: &[u8], launch: u32, places: [u32; 4]) {
     show_lists(marks, starts, ends, tasks);
 }
 
-// Plans the file of a sample of `count` tasks at a launch tick, and prints the reply, the lists, and what the judge says of a plan.
-fn plan_file(sample: u32, file: &[u8], launch: u32, count: usize) {
+// Plans the file of a sample of `count` tasks at a launch tick, and prints the reply, the lists, and what the judge says of a plan at a launch tick that is
+// `later` ticks after it.
+fn plan_file(sample: u32, file: &[u8], launch: u32, count: usize, later: u32) {
     let mut marks = [MARK; ROOM];
     let mut starts = [TICK; ROOM];
     let mut ends = [TICK; ROOM];
@@ -105,7 +107,7 @@ fn plan_file(sample: u32, file: &[u8], launch: u32, count: usize) {
     let agrees = judges::agrees(
         reply,
         file,
-        launch,
+        wrapping_add_u32(launch, later),
         count % 4,
         &marks,
         &starts,
@@ -115,7 +117,8 @@ fn plan_file(sample: u32, file: &[u8], launch: u32, count: usize) {
     show_verdict(reply.number, agrees);
 }
 
-// A sample's number, its file, the launch tick, and its number of tasks; or, where that is 0, the places of each of the four lists.
+// A sample's number, its file, the launch tick, its number of tasks, and how many ticks after the launch tick the judge is asked, 0 where it is left out; or,
+// where the number of tasks is 0, the places of each of the four lists.
 pub fn plan(line: &[u8]) {
     let sample = cases::number(line, 1);
     let launch = cases::number(line, 3);
@@ -123,7 +126,13 @@ pub fn plan(line: &[u8]) {
     let mut file = [0u8; 32];
     let length = cases::file(line, 2, &mut file);
     if count != 0 {
-        plan_file(sample, &file[..length], launch, count);
+        plan_file(
+            sample,
+            &file[..length],
+            launch,
+            count,
+            cases::number(line, 5),
+        );
         return;
     }
     let mut places = [0u32; 4];

@@ -3,7 +3,7 @@ use table::MAX_FILE;
 use table::Written;
 
 // The one line of errors: the number of a line, and what is wrong with it.
-fn complain(line: usize, cause: &[u8], errors: i32) {
+fn put_error(line: usize, cause: &[u8], errors: i32) {
     io::write_all(errors, b"line ");
     io::print_decimal(errors, line as u64);
     io::write_all(errors, b": ");
@@ -14,22 +14,22 @@ fn complain(line: usize, cause: &[u8], errors: i32) {
 // A line that is no line of a table: how many numbers are due there.
 fn wrong_line(line: usize, due: usize, errors: i32) {
     if due == 3 {
-        complain(
+        put_error(
             line,
-            b"three numbers are due: task count, p, q (decimal, at most 9 digits each)",
+            b"three numbers are due: task count, p, q (decimal, at most 999,999,999 each)",
             errors,
         );
         return;
     }
     if due == 4 {
-        complain(
+        put_error(
             line,
-            b"four numbers are due: release frame, deadline frame, mandatory ticks, optional ticks (decimal, at most 9 digits each)",
+            b"four numbers are due: release frame, deadline frame, mandatory ticks, optional ticks (decimal, at most 999,999,999 each)",
             errors,
         );
         return;
     }
-    complain(
+    put_error(
         line,
         b"nothing is due after the last task: line 1 has the task count",
         errors,
@@ -41,15 +41,15 @@ fn refused(reply: Written, errors: i32) {
     let number = reply.number;
     let line = text_reading::refused_line(number, reply.place);
     match number {
-        2 => complain(line, b"task count 0 or above 64", errors),
-        5 => complain(line, b"p or q is 0 or above 4,095, or p below q", errors),
-        12 => complain(
+        2 => put_error(line, b"task count 0 or above 64", errors),
+        5 => put_error(line, b"p or q is 0 or above 4,095, or p below q", errors),
+        12 => put_error(
             line,
             b"a number is too large for its field: frames go to 131,071, ticks to 16,383",
             errors,
         ),
-        6 => complain(line, b"release frame not below deadline frame", errors),
-        _ => complain(
+        6 => put_error(line, b"release frame not below deadline frame", errors),
+        _ => put_error(
             line,
             b"the windows up to this task neither nest nor follow one another",
             errors,

@@ -15,7 +15,7 @@ const OUTSIDE: u32 = 16;
 const GAINS: usize = 16;
 
 // More than any number of discarded parts: a way to give away the ticks that is no running, or a table that has none.
-pub const NO_RUNNING: u32 = 16;
+const NO_RUNNING: u32 = 16;
 
 // The n-th tick from the first that a window can have, the release tick of frame 0, is in a task's window.
 fn holds_nth(task: Task, row: usize, n: u32) -> bool {
@@ -81,18 +81,28 @@ fn discarded(tasks: [Task; PLACES], gains: [u32; GAINS], way: u32) -> u32 {
     wrapping_add_u32(wrapping_add_u32(a, b), wrapping_add_u32(c, d))
 }
 
-// The fewest parts that a running of the table discards, and NO_RUNNING where it has none.
-pub fn fewest_discarded(tasks: [Task; PLACES], row: usize) -> u32 {
+// All runnings of a table: how many there are, and the fewest parts that one of them discards, which is NO_RUNNING where there are none.
+pub struct Runnings {
+    pub count: u32,
+    pub fewest: u32,
+}
+
+// Tries every way to give away the ticks of a table.
+pub fn all_runnings(tasks: [Task; PLACES], row: usize) -> Runnings {
     let gains = gains(tasks, row);
     let ways = ways(row);
+    let mut count: u32 = 0;
     let mut fewest = NO_RUNNING;
     let mut way: u32 = 0;
     while way < ways {
         let discarded = discarded(tasks, gains, way);
+        if discarded < NO_RUNNING {
+            count = wrapping_add_u32(count, 1);
+        }
         if discarded < fewest {
             fewest = discarded;
         }
         way += 1;
     }
-    fewest
+    Runnings { count, fewest }
 }

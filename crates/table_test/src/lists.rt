@@ -2,23 +2,8 @@
 use libc::STDOUT_FILENO;
 use table::Written;
 
-// What every byte of a lent list is before a call.
-pub const PATTERN: u8 = 0xA5;
-
-// Each byte from `start` on is the pattern.
-fn is_kept(list: &[u8], start: usize) -> bool {
-    let mut i = start;
-    while i < list.len() {
-        if list[i] != PATTERN {
-            return false;
-        }
-        i += 1;
-    }
-    true
-}
-
 // Two lists have the same length and the same bytes.
-pub fn same(a: &[u8], b: &[u8]) -> bool {
+fn same(a: &[u8], b: &[u8]) -> bool {
     let mut i: usize = 0;
     while i < a.len() {
         if b.len() <= i {
@@ -30,6 +15,15 @@ pub fn same(a: &[u8], b: &[u8]) -> bool {
         i += 1;
     }
     a.len() == b.len()
+}
+
+// Prints whether two files are the same.
+pub fn show_same(a: &[u8], b: &[u8]) {
+    if same(a, b) {
+        cases::text(b" same file\n");
+    } else {
+        cases::text(b" another file\n");
+    }
 }
 
 // Prints the bytes of a list, 20 to a line.
@@ -58,11 +52,7 @@ pub fn show_written(reply: Written, list: &[u8]) {
         &[reply.number as u64, reply.place as u64, reply.bytes as u64],
     );
     let bytes = reply.bytes;
-    if is_kept(list, bytes) {
-        cases::text(b" kept");
-    } else {
-        cases::text(b" changed");
-    }
+    cases::show_kept(list, bytes);
     if bytes <= list.len() {
         show(&list[0..bytes]);
     }

@@ -9,11 +9,7 @@ fn read_again(file: &[u8], moved: &[u8]) {
     let table = read.table;
     cases::text(b"  read again:");
     tables::show_answer(answer);
-    if lists::same(file, moved) {
-        cases::text(b" same file\n");
-    } else {
-        cases::text(b" another file\n");
-    }
+    lists::show_same(file, moved);
     tables::show(table);
 }
 
@@ -43,7 +39,7 @@ pub fn case(line: &[u8]) {
     let mut file = [0u8; 32];
     let length = cases::file(line, 1, &mut file);
     let frames = signed(cases::number(line, 2), cases::number(line, 3));
-    let mut list = [lists::PATTERN; 64];
+    let mut list = [cases::PATTERN; 64];
     let room = (cases::number(line, 4) % 65) as usize;
     move_into(&file[..length], frames, &mut list[0..room]);
 }

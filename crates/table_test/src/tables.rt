@@ -71,7 +71,7 @@ fn difference(a: Task, b: Task) -> u32 {
 }
 
 // Two tables are the same: count, p, q and the tasks up to the count agree.
-pub fn same(a: Table, b: Table) -> bool {
+fn same(a: Table, b: Table) -> bool {
     let count = a.count as usize;
     let mut different = a.count ^ b.count | a.p ^ b.p | a.q ^ b.q;
     let mut i: usize = 0;
@@ -84,4 +84,13 @@ pub fn same(a: Table, b: Table) -> bool {
         i += 1;
     }
     different == 0
+}
+
+// Prints whether two tables are the same.
+pub fn show_same(a: Table, b: Table) {
+    if same(a, b) {
+        cases::text(b" same\n");
+    } else {
+        cases::text(b" not the same\n");
+    }
 }

@@ -25,19 +25,19 @@ fn tasks_of(numbers: [u32; NUMBERS]) -> [Task; MAX_TASKS] {
     tasks
 }
 
-// The table in a file that a line names.
-fn table_in(line: &[u8]) -> Table {
+// The table in a file that a field of a line names.
+fn table_in(line: &[u8], field: usize) -> Table {
     let mut file = [0u8; 500];
-    let length = cases::file(line, 2, &mut file);
+    let length = cases::file(line, field, &mut file);
     let read = reading::read(&file[..length]);
     read.table
 }
 
-// The table of a line, which has its numbers, or names a file that it is in.
-fn table_of(line: &[u8]) -> Table {
+// The table of a field, which has its numbers, or names a file that it is in.
+pub fn table_of(line: &[u8], field: usize) -> Table {
     let mut numbers = [0u32; NUMBERS];
-    if cases::numbers(line, 2, &mut numbers) == 0 {
-        return table_in(line);
+    if cases::numbers(line, field, &mut numbers) == 0 {
+        return table_in(line, field);
     }
     let tasks = tasks_of(numbers);
     Table {
@@ -55,11 +55,7 @@ fn read_again(table: Table, file: &[u8]) {
     let again = read.table;
     cases::text(b"  read again:");
     tables::show_answer(answer);
-    if tables::same(table, again) {
-        cases::text(b" same\n");
-    } else {
-        cases::text(b" not the same\n");
-    }
+    tables::show_same(table, again);
 }
 
 // Writes a table into a list and prints the reply and the list; what was written is read again.
@@ -77,8 +73,8 @@ fn write_into(table: Table, list: &mut [u8]) {
 
 // A case: how many bytes the lent list has, and the table. Where a number follows, only the number of bytes written is printed.
 pub fn case(line: &[u8]) {
-    let mut list = [lists::PATTERN; 512];
-    let table = table_of(line);
+    let mut list = [cases::PATTERN; 512];
+    let table = table_of(line, 2);
     if cases::number(line, 3) != 0 {
         let reply = writing::write(table, &mut list);
         cases::show(b" #\n", &[reply.bytes as u64]);

@@ -5,6 +5,12 @@
 // feed and `\0` for the byte 0. What is printed is the title, the first wrong line and how many numbers are due there; then the table: task count, p and q,
 // and the tasks at the places 0, 1, 2 and 63. A line that starts with `refusal` has the number and the place of a refusal of writing; what is printed is the
 // line of the text that it is about.
+//
+// A line that starts with `into` has a file and how many bytes the list has in which it is shown as text; what is printed is the reply's number, place and
+// bytes, whether the list is kept beyond them, and the text. A line that starts with `out` has a text that is made into a file; what is printed is the first
+// wrong line, how many numbers are due there, and then writing's reply in the same way.
+mod conversions;
+
 ghost use Rattle.io.specs.Counts.{Counts};
 use libc::STDIN_FILENO;
 use table::Table;
@@ -101,9 +107,17 @@ fn case(start: u8, line: &[u8]) {
         refusal(line);
         return;
     }
+    if start == b'i' {
+        conversions::into_text(line);
+        return;
+    }
     let mut text = [0u8; 600];
     let behind = cases::start_of(line, 1);
     let length = unescape(&line[behind..], &mut text);
+    if start == b'o' {
+        conversions::out_of_text(&text[..length]);
+        return;
+    }
     show(text_reading::parse(&text[..length]));
 }
 

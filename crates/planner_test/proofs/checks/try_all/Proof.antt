@@ -5,10 +5,10 @@ use Rattle.planner_test.proofs.checks.try_all.Statement.{statement}
 use Rattle.planner_test.proofs.checks.try_all.Tie as tie
 
 abbrev Inv-loop : tie.InvT-loop
-Inv-loop family tables counts₀ index₀ counts index = Unit
+Inv-loop family tables part counts₀ index₀ counts index = Unit
 
 abbrev μ-loop : tie.MeasureT-loop
-μ-loop family tables counts₀ index₀ counts index = tables - index
+μ-loop family tables part counts₀ index₀ counts index = tables - index
 
 loop-holds : tie.Need-loop-holds Inv-loop μ-loop
 loop-holds c = search needs

@@ -1,9 +1,9 @@
--- `table_test::lists::is_kept` is safe and ends: the measure is the number of bytes left.
+-- `cases::lent::is_kept` is safe and ends: the measure is the number of bytes left.
 use Prim.Native.Nat.{_-_}
 use borrow.Author.Needs.{needs}
 use lib.ListN.{length}
-use Rattle.table_test.proofs.lists.is_kept.Statement.{statement}
-use Rattle.table_test.proofs.lists.is_kept.Tie as tie
+use Rattle.cases.proofs.lent.is_kept.Statement.{statement}
+use Rattle.cases.proofs.lent.is_kept.Tie as tie
 
 abbrev Inv-loop : tie.InvT-loop
 Inv-loop list start i₀ i = Unit
