@@ -9,12 +9,9 @@ use planner_compare::stack;
 use planner_compare::tables::{self, Columns, Finished, Lists, LAUNCH};
 use std::hint::black_box;
 
-/// The targets for what copies 4,096 records into two columns before it looks at them, and into three.
-const TWO_COLUMNS: f64 = 2.5;
-const THREE_COLUMNS: f64 = 5.0;
-
-/// The target for the ratio of planning 64 tasks.
-const FULL: f64 = 0.7;
+/// The targets for the ratio: of planning, and of every other call.
+const PLANNING: f64 = 0.8;
+const OTHERS: f64 = 1.2;
 /// Batches of each side, the two in turn.
 const BATCHES: usize = 101;
 
@@ -32,7 +29,7 @@ fn line(name: &str, target: f64, (proved, reference): (f64, f64)) {
 }
 
 /// Measures planning of a table and prints its line: the name, and what the plan comes to.
-fn plan(name: &str, target: f64, table: &Table) {
+fn plan(name: &str, table: &Table) {
     let file = &inputs::pack(table);
     let (mut a, mut b) = (Lists::default(), Lists::default());
     let said = a.plan(ffi::plan, file);
@@ -44,18 +41,18 @@ fn plan(name: &str, target: f64, table: &Table) {
             let _ = black_box(reference::plan(black_box(file), LAUNCH, &mut b.marks, &mut b.starts, &mut b.ends, &mut b.tasks));
         },
     );
-    line(&format!("{name} ({})", tables::summary(&said)), target, times);
+    line(&format!("{name} ({})", tables::summary(&said)), PLANNING, times);
 }
 
 /// Planning of 64 tasks, of both kinds.
 fn plans() {
     for (name, table) in tables::full() {
-        plan(&format!("plan 64, {name}"), FULL, &table);
+        plan(&format!("plan 64, {name}"), &table);
     }
 }
 
 /// Measures reading of a file and prints its line.
-fn read(name: &str, target: f64, file: &[u8]) {
+fn read(name: &str, file: &[u8]) {
     let times = both(
         || {
             black_box(ffi::read(black_box(file)));
@@ -64,15 +61,15 @@ fn read(name: &str, target: f64, file: &[u8]) {
             let _ = black_box(reference::read(black_box(file)));
         },
     );
-    line(name, target, times);
+    line(name, OTHERS, times);
 }
 
 /// The three calls on table files.
 fn files() {
     let full = tables::tight(64);
     let file = inputs::pack(&full);
-    read("read 64 tasks, 500 bytes", 2.0, &file);
-    read("read 3 tasks, 28 bytes", 1.3, &inputs::pack(&tables::tight(3)));
+    read("read 64 tasks, 500 bytes", &file);
+    read("read 3 tasks, 28 bytes", &inputs::pack(&tables::tight(3)));
     let (mut a, mut b) = (vec![0xaa; 500], vec![0xaa; 500]);
     let times = both(
         || {
@@ -82,7 +79,7 @@ fn files() {
             let _ = black_box(reference::write(black_box(&full), &mut b));
         },
     );
-    line("write 64 tasks, 500 bytes", 1.2, times);
+    line("write 64 tasks, 500 bytes", OTHERS, times);
     let times = both(
         || {
             black_box(ffi::shift(black_box(&file), 5, &mut a));
@@ -91,7 +88,7 @@ fn files() {
             let _ = black_box(reference::shift(black_box(&file), 5, &mut b));
         },
     );
-    line("shift 64 tasks, 500 bytes", 1.2, times);
+    line("shift 64 tasks, 500 bytes", OTHERS, times);
 }
 
 /// Measures judging of a finished plan that is accepted, and prints its line.
@@ -105,15 +102,14 @@ fn judge(name: &str, Finished { file, marks, runs, .. }: &Finished) {
             let _ = black_box(reference::judge(black_box(file), LAUNCH, marks, runs));
         },
     );
-    line(name, 2.0, times);
+    line(name, OTHERS, times);
 }
 
 /// Measures the busy count of a finished plan, and prints its line.
-fn busy(name: &str, target: f64, finished: &Finished) {
+fn busy(name: &str, finished: &Finished) {
     let (a, b) = finished.interval();
     on_runs(
         name,
-        target,
         &finished.runs,
         |runs| {
             black_box(ffi::busy(runs, a, b));
@@ -125,8 +121,8 @@ fn busy(name: &str, target: f64, finished: &Finished) {
 }
 
 /// Measures what is asked of a run list alone, and prints its line. The library copies the list first, two columns of it or all three.
-fn on_runs(name: &str, target: f64, runs: &[Run], proved: impl Fn(&[Run]), reference: impl Fn(&[Run])) {
-    line(name, target, both(|| proved(black_box(runs)), || reference(black_box(runs))));
+fn on_runs(name: &str, runs: &[Run], proved: impl Fn(&[Run]), reference: impl Fn(&[Run])) {
+    line(name, OTHERS, both(|| proved(black_box(runs)), || reference(black_box(runs))));
 }
 
 /// The two calls on finished plans.
@@ -134,15 +130,14 @@ fn finished() {
     let (few, many) = (tables::planned_runs(), tables::many_runs());
     judge("judge 64 tasks, 127 runs", &few);
     judge("judge 1 task, 4,096 runs", &many);
-    busy("busy count of 127 runs", 3.0, &few);
-    busy("busy count of 4,096 runs", TWO_COLUMNS, &many);
+    busy("busy count of 127 runs", &few);
+    busy("busy count of 4,096 runs", &many);
 }
 
 /// The check of 4,096 runs, and what touches an interval of them.
 fn check_and_touching(Finished { runs, .. }: &Finished, (a, b): (u32, u32)) {
     on_runs(
         "check 4,096 runs",
-        TWO_COLUMNS,
         runs,
         |runs| {
             black_box(ffi::check_runs(runs));
@@ -153,7 +148,6 @@ fn check_and_touching(Finished { runs, .. }: &Finished, (a, b): (u32, u32)) {
     );
     on_runs(
         "runs touching an interval, of 4,096",
-        TWO_COLUMNS,
         runs,
         |runs| {
             black_box(ffi::runs_touching(runs, a, b));
@@ -168,7 +162,6 @@ fn check_and_touching(Finished { runs, .. }: &Finished, (a, b): (u32, u32)) {
 fn one_run(Finished { runs, .. }: &Finished, tick: u32) {
     on_runs(
         "run at a tick, of 4,096",
-        THREE_COLUMNS,
         runs,
         |runs| {
             black_box(ffi::run_at(runs, tick));
@@ -179,7 +172,6 @@ fn one_run(Finished { runs, .. }: &Finished, tick: u32) {
     );
     on_runs(
         "first run from a tick on, of 4,096",
-        THREE_COLUMNS,
         runs,
         |runs| {
             black_box(ffi::run_from(runs, tick));
@@ -210,10 +202,10 @@ fn queries() {
 fn growth() {
     println!("Growth of planning, tight tables:");
     for n in [8, 16, 32, 64] {
-        plan(&format!("plan {n}"), if n == 64 { FULL } else { 1.5 }, &tables::tight(n));
+        plan(&format!("plan {n}"), &tables::tight(n));
     }
     for n in [8, 16, 32, 64] {
-        plan(&format!("plan {n} similar tasks"), if n == 64 { FULL } else { 2.5 }, &tables::similar_tight(n));
+        plan(&format!("plan {n} similar tasks"), &tables::similar_tight(n));
     }
 }
 
