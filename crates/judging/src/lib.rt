@@ -1,4 +1,4 @@
-// Judging a keep list and a run list (an entry point): one pass over the runs and one over the tasks, in a fixed amount of memory.
+// Judging a keep list and a run list (an entry point): one pass over the runs and a few over the tasks, in a fixed amount of memory.
 ghost use mathlib.Core.Path.{_≡_};
 ghost use mathlib.Core.Bool.{not};
 ghost use Prim.Native.Nat.{_≤_};

@@ -38,6 +38,7 @@ pub record SameAsEarlier (file : List ℕ) (reply : Planned) (before after : Len
   pub reply-is : reply ≡ earlierReply file before
   pub lists-are : after ≡ earlierLists file reply before
 
+-- 'With launch 0 every earlier answer holds': the clause of the plan call
 abbrev pub EarlierAtZero : ℕ → List ℕ → Planned → LentLists → LentLists → Type 0
 EarlierAtZero launch file reply before after = launch ≡ 0 → SameAsEarlier file reply before after
 
@@ -47,5 +48,6 @@ pub record LaterThanAtZero (launch : ℕ) (file : List ℕ) (reply : Planned) (b
   pub marks-are : after .marks ≡ listsAfter 0 (tableIn file) reply before .marks
   pub runs-later : reply .number ≡ 0 → runsIn reply after ≡ laterRuns launch (runsIn reply (listsAfter 0 (tableIn file) reply before))
 
+-- the clause of the plan call: so it is at every launch tick that is accepted
 abbrev pub LaterByLaunch : ℕ → List ℕ → Planned → LentLists → LentLists → Type 0
 LaterByLaunch launch file reply before after = badLaunch launch ≡ false → LaterThanAtZero launch file reply before after

@@ -35,7 +35,8 @@ exceedingAfter n sum [] = n
 exceedingAfter n sum (job ∷ jobs) =
     pick (ltb (windowTicks job) (sum + job .mandatory)) (job .position) (exceedingAfter n (sum + job .mandatory) jobs)
 
--- its position, and n where there is none: of a similar table it is the first that is late where all run in order, as early as they can
+-- the place of an 8 among jobs of a kind, and n where there is none: of similar jobs it is the first that is late where all run in order, as early as they
+-- can
 unfoldable pub unmetBy : Bool → ℕ → List Job → ℕ
 unmetBy nested n jobs = pick nested (exceedingAfter n 0 (reverse jobs)) (firstLate n jobs)
 

@@ -31,6 +31,7 @@ unfoldable pub dropsFrom : ℕ → List ℕ → List ℕ
 dropsFrom k [] = []
 dropsFrom k (mark ∷ marks) = pick (eqb mark 0) (line dropWord (k ∷ [])) [] ++ dropsFrom (suc k) marks
 
+-- the DROP lines of a keep list by position
 unfoldable pub dropLines : List ℕ → List ℕ
 dropLines marks = dropsFrom 0 marks
 
@@ -38,6 +39,7 @@ dropLines marks = dropsFrom 0 marks
 unfoldable pub runLine : Run → List ℕ
 runLine run = line runWord (run .start ∷ run .end ∷ run .task ∷ [])
 
+-- the RUN lines of a run list
 unfoldable pub runLines : List Run → List ℕ
 runLines [] = []
 runLines (run ∷ runs) = runLine run ++ runLines runs

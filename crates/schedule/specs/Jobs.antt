@@ -1,5 +1,5 @@
--- Jobs: the tasks of an accepted table in ticks of the frame clock at a launch tick. Nothing above uses the clock, but Earlier, whose jobs have no launch
--- tick.
+-- Jobs: the tasks of an accepted table in ticks of the frame clock at a launch tick. Nothing above asks the clock for a tick, but Earlier, whose jobs have
+-- no launch tick.
 use Prim.Native.Nat.{ℕ, _+_, _-_, _≤_}
 use mathlib.Core.List.{List}
 use lib.Dec.{ltb, eqb}

@@ -32,6 +32,7 @@ unfoldable pub followFrom : ℕ → List Run → Bool
 followFrom from [] = true
 followFrom from (run ∷ runs) = and (leb from (run .start)) (followFrom (run .end) runs)
 
+-- the same of a whole list: before its first run there is no end
 unfoldable pub inOrder : List Run → Bool
 inOrder runs = followFrom 0 runs
 
