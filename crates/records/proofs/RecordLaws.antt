@@ -46,9 +46,9 @@ filled-is number runs (suc n) h =
 pub filled-at : (number : Run → ℕ) (runs : List Run) (n k : ℕ) → k < n → n ≤ heldRuns → getD (filled number runs n) k 0 ≡ number (getD runs k noRun)
 filled-at number runs n k h m = filled-is number runs n m .before k h (omega arith) (omega arith)
 
--- the columns are made of what is filled in
+-- the columns are made of what is filled in, the tasks last
 pub columns-made : (runs : List Run) (n : ℕ) → n ≡ heldCount runs
-    → madeOf (heldCount runs) (filled startOf runs n) (filled endOf runs n) (filled taskNumber runs n) ≡ columnsOf runs
+    → madeOf (heldCount runs) (filled startOf runs (heldCount runs)) (filled endOf runs (heldCount runs)) (filled taskNumber runs n) ≡ columnsOf runs
 unfolding columnsOf
 columns-made runs n e = rw e
 

@@ -70,7 +70,8 @@ fn made(
     }
 }
 
-// The columns of a list of records.
+// The columns of a list of records. The tasks have a loop of their own: a loop that fills one column or two copies several numbers at a time, and one that
+// fills three a single one.
 pub fn columns_of(runs: &[Run]) -> RunColumns
     ensures { λ r. ⌜ r ≡ columnsOf (now (runs .entry)) ⌝ }
 {
@@ -84,6 +85,11 @@ pub fn columns_of(runs: &[Run]) -> RunColumns
         let run = record_at(runs, i);
         starts[i] = run.start;
         ends[i] = run.end;
+        i += 1;
+    }
+    i = 0;
+    while i < n {
+        let run = record_at(runs, i);
         tasks[i] = run.task;
         i += 1;
     }
