@@ -203,7 +203,8 @@ fn try_table(family: Family, index: u32, part: u32) -> Outcome {
 
 // Counts over tables: at places 0 to 15 the planner's replies by their number; then the sums of kept, discarded and runs; the planned tables that are similar
 // and not nested; the tables that were tried on all runnings, and the runnings; the tables whose plan is not what the search over every keep list finds,
-// whose reply is not what all runnings say, and to whose plan the judge doesn't say yes; and the index of the first such table.
+// whose reply is not what all runnings say, and to whose plan the judge doesn't say yes; and one more than the index of the first such table,
+// or 0 where there is none.
 const COUNTS: usize = 26;
 
 // 1 for what holds, and else 0.
@@ -233,7 +234,7 @@ fn counted(counts: [u64; COUNTS], outcome: Outcome, index: u32) -> [u64; COUNTS]
     after[23] = wrapping_add_u64(counts[23], one(tried.differs));
     after[24] = wrapping_add_u64(counts[24], one(outcome.judge_differs));
     if differs && counts[22] | counts[23] | counts[24] == 0 {
-        after[25] = index as u64;
+        after[25] = wrapping_add_u64(index as u64, 1);
     }
     after
 }

@@ -10,8 +10,8 @@
 // A line on small tables has the number of tasks and the period; then the launch tick at which they are planned, how many tables there are, how many were
 // planned, how many of these are similar and not nested, how many were refused by 7 and refused by 8; the sums of kept, discarded and runs. Behind `runnings`
 // it has how many tables were tried on all runnings, and how many runnings these have in all; behind `differ` how many tables have a plan other than the
-// search over every keep list finds, how many a reply other than all runnings say, to how many plans the judge doesn't say yes, and the index of the first
-// table that any of the three is about.
+// search over every keep list finds, how many a reply other than all runnings say, to how many plans the judge doesn't say yes, and which table is the first
+// that any of the three is about, counted from 1 on, or 0 where there is none.
 //
 // The sizes. In all of them a task has 0 or 1 mandatory ticks.
 // - All tables whose windows lie within frames 0 to 4, which are three or four ticks from the end of frame 0 on: 1 task with the period 1/1, and 2 tasks with
@@ -35,6 +35,9 @@
 // only, and for each choice of lengths it adds up those that give every task its mandatory ticks, or these and its optional ticks. It gave the counts of
 // planned, 7 and 8 and the sums of kept and discarded too.
 //
+// A line that starts with `altered` has a sample's plan with one part altered, which is printed below it, as many places of the lists as a small table has: the
+// plans that the last lines are about are altered in the same way.
+//
 // Plans with one part altered, of 4,096 tables of three tasks, of which 3,256 are planned, 384 refused by 7 and 456 by 8. The same program gave that 3,198 of
 // those planned have a run, and that in 1,628 task 0 has an optional tick. The comparisons must differ where they look at the part:
 // - The search looks at all of a reply, so with a part of it altered all 4,096 differ. With the mark of task 0 turned all that are planned differ, and with a
@@ -55,6 +58,7 @@ fn case(start: u8, line: &[u8]) {
         b'c' => samples::clock(line),
         b'p' => samples::plan(line),
         b's' => samples::shift(line),
+        b'a' => samples::altered(line),
         b'1'..=b'4' => checks::family(line),
         _ => {}
     }

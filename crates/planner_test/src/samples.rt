@@ -1,4 +1,5 @@
 // The sample flights: P1 to P12 of document 01, P9 with the lengths chosen in `samples`, and variants, which have the number of their sample.
+use crate::alterations;
 use crate::judges;
 use plans::Planned;
 use std::num::wrapping_add_u32;
@@ -155,4 +156,25 @@ pub fn shift(line: &[u8]) {
             reply.bytes as u64,
         ],
     );
+}
+
+// A sample's number, its file, the launch tick, and the part of its plan that is altered: prints the title and a line with the altered reply, and of the
+// altered lists the first four places.
+pub fn altered(line: &[u8]) {
+    let mut file = [0u8; 32];
+    let length = cases::file(line, 2, &mut file);
+    let made = alterations::planned(&file[..length], cases::number(line, 3));
+    let plan = alterations::altered(made, cases::number(line, 4));
+    let reply = plan.reply;
+    let marks = plan.marks;
+    let starts = plan.starts;
+    let ends = plan.ends;
+    let tasks = plan.tasks;
+    cases::show_title(line);
+    cases::text(b"\n");
+    show_reply(cases::number(line, 1), reply);
+    show_row(marks[0], starts[0], ends[0], tasks[0]);
+    show_row(marks[1], starts[1], ends[1], tasks[1]);
+    show_row(marks[2], starts[2], ends[2], tasks[2]);
+    show_row(marks[3], starts[3], ends[3], tasks[3]);
 }

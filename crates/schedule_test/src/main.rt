@@ -6,6 +6,10 @@
 // title, and the number and place of the answer; then of judging the verdict and the counts kept and discarded, of counting the ticks, and of asking the run
 // at the tick, the first run that starts at it or after it, and the stretch that touches the interval.
 //
+// The last cases are about the comparison that this program makes itself. Such a line has runs that stand in an array, runs that are held, and the first index
+// of a stretch of the array and how many runs it has. What is printed is that index and how many runs are held, and `other` where these are not the runs of
+// the stretch.
+//
 // The runs of a case stand in an array, and its first runs are lent to the entry points as a list of records.
 ghost use Prim.Native.Nat.{_≤_};
 ghost use Rattle.records.specs.RecordColumns.{HeldColumns};
@@ -167,6 +171,15 @@ fn ask(line: &[u8]) {
     show_stretch(rows, queries::stretch_held(columns, a, b), part);
 }
 
+// A case of the comparison that this program makes itself.
+fn compare(line: &[u8]) {
+    let rows = record_calls::rows_of(runs_at(line, 1));
+    let part = runs_at(line, 4);
+    let first = cases::number(line, 7) as usize;
+    let runs = cases::number(line, 8) as usize;
+    show_stretch(rows, Stretch { first, runs }, part);
+}
+
 // The case on a line that starts with a given byte.
 fn case(start: u8, line: &[u8]) {
     if start == b'#' {
@@ -177,6 +190,8 @@ fn case(start: u8, line: &[u8]) {
         judge(line);
     } else if start == b'b' {
         count(line);
+    } else if start == b'c' {
+        compare(line);
     } else {
         ask(line);
     }
