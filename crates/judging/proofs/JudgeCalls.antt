@@ -17,7 +17,7 @@ use prog.Wp.{Heap, Closed, WpFn, Tables}
 use ghost.Atoms.{Atoms}
 use contract.Monad.{Fun}
 use contract.Running.{GhostRules, Running, givenOf, tables}
-use types.Kit.{Given, ‵, raw, _⊛_, ⋆, _$_, _∵_, !, qed, move, drop, use1, use2, use3, split, join, fsplit, fjoin, suffices, frame, done}
+use types.Kit.{Given, ‵, raw, _⊛_, ⋆, _$_, _∵_, !, qed, move, drop, use3, split, join, fsplit, fjoin, suffices, frame, done}
 use types.Run.{look, init, forget, and-then, no-more, land, returns, enter, alloc1, alloc0, params1, pass1, pass0, free1, free0}
 use sound.WpLaws.{fmOf, WpFn-mono}
 use denote.RattleType.{owns}
@@ -26,7 +26,7 @@ use denote.Plain.{uint-vals, uint-tells, uint-lawful, uint-makes}
 use denote.Builtin.{u8, u32, SliceRefOf}
 use denote.Ref.{RefT}
 use denote.Signature.{plain}
-use denote.Slice.{ShrSlice, slice-vals, shr-slice-tells, shr-slice-lawful, shr-slice-copy}
+use denote.Slice.{ShrSlice, slice-vals, shr-slice-tells, shr-slice-lawful}
 use denote.Steps.{owned, nothing}
 use denote.Struct.Laws as LL
 use denote.Triple.Statement.{Contract, Triple}
@@ -37,10 +37,10 @@ use denote.Triple.Spec.{Meets, tripleOf}
 use denote.Triple.Walked.{says, Stays, stay-none, stay-none-slice, walkOf, goes-none, goes-none-slice, Walks, ends-at, walked, walk-meets}
 use denote.Exit.{yes}
 use Rattle.records.proofs.Walking.{spot, value, returned, says-all}
-use Rattle.records.proofs.ThinCalls.{value-of, sliceLocal, columnsLocal, said, lent, Own, First, to-g, goes-g, placed}
+use Rattle.records.proofs.ColumnsCall.{value-of, sliceLocal, columnsLocal, said, lent, Own, First, twice, calls-columns, placed}
 use Rattle.schedule.specs.Judging.{judged}
 use Rattle.schedule.proofs.ManyRuns.{judge-many}
-use Rattle.records.specs.RecordColumns.{columnsOf, runsHeld, HeldColumns}
+use Rattle.records.specs.RecordColumns.{runsHeld, HeldColumns}
 use Rattle.records.proofs.HeldLaws.{columns-held, held-reply}
 use Rattle.schedule.specs.declared.Run.{Run}
 use Rattle.schedule.proofs.Run as mRun
@@ -50,7 +50,6 @@ use Rattle.records.proofs.RunColumns.Laws as mRunColumns′
 use Rattle.schedule.specs.declared.Judged.{Judged}
 use Rattle.schedule.proofs.Judged as mJudged
 use Rattle.schedule.proofs.Judged.Laws as mJudged′
-use Rattle.records.proofs.columns_of as g
 use Rattle.records.proofs.columns_of.Symbol as g-def
 use Rattle.records.proofs.columns_of.Symbol.{name as #g}
 use Rattle.judging.proofs.judge_held as h
@@ -146,22 +145,10 @@ module _ {M : Type 1} (𝓤 : URA M) (H : Heap 𝓤) (A : Atoms 𝓤) (W : Given
         pass1 ! (init ! 4 refl (shr-slice-lawful 𝓤 H A W (named 1) κ₁ u8 .typed marks (lent marks ∷ []) gmarks .0)) $
         pass1 ! (init ! 2 refl (shr-slice-lawful 𝓤 H A W (named 2) κ₂ mRun.the-row .typed runs (lent runs ∷ []) gruns .0)) $ pass0 ! $
         move ! (13 ∷ []) $ fsplit ! $ move ! (1 ∷ []) $ fsplit ! $ move ! (1 ∷ []) $ fsplit ! $ move ! (1 ∷ []) $ fsplit ! $
-        move ! (17 ∷ []) $ split ! $ move ! (1 ∷ []) $ split ! $ move ! (1 ∷ []) $ split ! $ move ! (0 ∷ 1 ∷ []) $ join ! $ move ! (3 ∷ []) $
-        use1 W (‵ (Own mRun.the-row κ₂ runs) ⊛ ‵ (Own mRun.the-row κ₂ runs))
-        (shr-slice-copy 𝓤 H A W (named 2) κ₂ mRun.the-row .twice runs (lent runs ∷ [])) $ split ! $ move ! (2 ∷ 1 ∷ []) $
-        use2 W (raw (First 𝓤 H A at-mem run .pre (to-g 𝓤 H A at-mem run W κ₂ q₂ runs)))
-        (goes-g 𝓤 H A at-mem run W κ₂ q₂ runs) $
-        calls-at ! (fmOf 𝓤 H (W .laws) 𝓣) (First 𝓤 H A at-mem run) known-g (to-g 𝓤 H A at-mem run W κ₂ q₂ runs)
-        (and-then ! (value ! 10 refl) (no-more !)) (λ w.
-        returned ! tt (‵ (flft κ₂ q₂) ⊛ ‵ ftrue) mRunColumns.the-row (λ c. ensured 𝓤 H A g.ended (g.clauses 𝓤 H A at-mem run) (κ₂, tt) (runs, tt) tt c)
-        (λ c. c ≡ columnsOf (runs .now)) (λ c. said 𝓤 H A g.ended (κ₂, tt) (runs, tt) (c ≡ columnsOf (runs .now))) w (λ c e is. drop ! $
+        move ! (17 ∷ []) $ split ! $ move ! (1 ∷ []) $ split ! $ move ! (1 ∷ []) $ split ! $ move ! (0 ∷ 1 ∷ []) $ join ! $ move ! (0 ∷ 3 ∷ []) $
+        calls-columns ! 𝓣 at-mem run known-g κ₂ q₂ runs (value ! 10 refl) (λ w c e is.
         land ! (spot !) (init ! 8 refl (LL.lawful mRunColumns.the-type mRunColumns′.the-laws 𝓤 H A W .typed c _ is .0)) $
-        move ! (7 ∷ []) $
-        use1 W (‵ (Own u8 κ₀ file) ⊛ ‵ (Own u8 κ₀ file))
-        (shr-slice-copy 𝓤 H A W (named 0) κ₀ u8 .twice file (lent file ∷ [])) $ split ! $ move ! (7 ∷ []) $
-        use1 W (‵ (Own u8 κ₁ marks) ⊛ ‵ (Own u8 κ₁ marks))
-        (shr-slice-copy 𝓤 H A W (named 1) κ₁ u8 .twice marks (lent marks ∷ [])) $ split ! $
-        nothing ! $ move ! (7 ∷ 0 ∷ []) $ join ! $ move ! (7 ∷ 0 ∷ []) $ join ! $ move ! (0 ∷ 4 ∷ 2 ∷ []) $
+        move ! (7 ∷ []) $ twice ! u8 κ₀ file $ move ! (7 ∷ []) $ twice ! u8 κ₁ marks $ nothing ! $ move ! (7 ∷ 0 ∷ []) $ join ! $ move ! (7 ∷ 0 ∷ []) $ join ! $ move ! (0 ∷ 4 ∷ 2 ∷ []) $
         use3 W (raw (Then 𝓤 H A at-mem run .pre (to-h c w)))
         (goes-h c w is glaunch (subst HeldColumns (sym e) (columns-held (runs .now)))) $
         calls-at ! (fmOf 𝓤 H (W .laws) 𝓣) (Then 𝓤 H A at-mem run) known-h (to-h c w)
@@ -180,7 +167,7 @@ module _ {M : Type 1} (𝓤 : URA M) (H : Heap 𝓤) (A : Atoms 𝓤) (W : Given
         ∙ held-reply (judged launch (file .now) (marks .now)) (judge-many launch (file .now) (marks .now)) (runs .now))) $
         move ! (4 ∷ []) $ split ! $ move ! (3 ∷ []) $ split ! $ move ! (1 ∷ []) $ split ! $ move ! (1 ∷ []) $ drop ! $
         move ! (2 ∷ 3 ∷ []) $ join ! $ move ! (1 ∷ 0 ∷ []) $ join ! $ move ! (1 ∷ 0 ∷ []) $ join ! $ frame ! $
-        move ! (3 ∷ 4 ∷ []) $ fjoin ! $ move ! (2 ∷ 0 ∷ []) $ fjoin ! $ move ! (3 ∷ 0 ∷ []) $ fjoin ! $ move ! (2 ∷ 0 ∷ []) $ fjoin ! $ frame ! $ done !))))))))))
+        move ! (3 ∷ 4 ∷ []) $ fjoin ! $ move ! (2 ∷ 0 ∷ []) $ fjoin ! $ move ! (3 ∷ 0 ∷ []) $ fjoin ! $ move ! (2 ∷ 0 ∷ []) $ fjoin ! $ frame ! $ done !)))))))))
 
 module _ {M : Type 1} (𝓤 : URA M) (H : Heap 𝓤) (A : Atoms 𝓤) (W : Given 𝓤 H A) (at-mem : Memory → SProp 𝓤) (run : Routine → Fun 𝓤)
     (promise : Promise 𝓤) (keeps : Kept 𝓤 promise) (𝓣 : Tables 𝓤 H)

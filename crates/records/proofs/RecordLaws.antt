@@ -72,7 +72,7 @@ taken-at number runs k h =
 
 -- the runs that the columns of a list hold are its first
 pub held-runs : (runs : List Run) → runsHeld (columnsOf runs) ≡ take heldRuns runs
-unfolding runsHeld columnsOf runsOf runAt
+unfolding columnsOf runsOf runAt
 held-runs runs =
     sym (places-is (runAt (column startOf) (column endOf) (column taskNumber)) (length (column startOf)) noRun (take heldRuns runs)
     (rw (length-take heldRuns runs, count) (omega arith))

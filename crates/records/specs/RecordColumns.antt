@@ -1,5 +1,6 @@
 -- For the proofs of the code alone: the columns that run records are copied into, and the runs that they hold.
 use Prim.Native.Nat.{ℕ, zero, suc, _+_, _≤_, min}
+use mathlib.Core.Path.{_≡_}
 use mathlib.Core.List.{List}
 use lib.ListN.{length, getD, set, replicate, take}
 use Rattle.base.specs.Limits.{maxRuns}
@@ -44,12 +45,17 @@ columnsOf runs =
     madeOf (heldCount runs) (filled startOf runs (heldCount runs)) (filled endOf runs (heldCount runs)) (filled taskNumber runs (heldCount runs))
 
 -- the runs that columns hold
-unfoldable pub runsHeld : RunColumns → List Run
+abbrev pub runsHeld : RunColumns → List Run
 runsHeld columns = runsOf (take (columns .count) (columns .starts)) (take (columns .count) (columns .ends)) (take (columns .count) (columns .tasks))
+
+-- the first n places of a column are there to be lent: it has as many, and so has the part of it that they are
+pub record Lends (n : ℕ) (column : List ℕ) : Type 0 where
+  pub there : n ≤ length column
+  pub lent : length (take n column) ≡ n
 
 -- no more runs are counted than are held of a list, and each column has a place for every one
 pub record HeldColumns (columns : RunColumns) : Type 0 where
   pub few : columns .count ≤ heldRuns
-  pub starts-held : columns .count ≤ length (columns .starts)
-  pub ends-held : columns .count ≤ length (columns .ends)
-  pub tasks-held : columns .count ≤ length (columns .tasks)
+  pub starts : Lends (columns .count) (columns .starts)
+  pub ends : Lends (columns .count) (columns .ends)
+  pub tasks : Lends (columns .count) (columns .tasks)

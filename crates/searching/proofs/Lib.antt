@@ -1,2 +1,3 @@
 pub mod HalvingLaws
 pub mod ColumnLaws
+pub mod FoundLaws

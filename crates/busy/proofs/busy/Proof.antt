@@ -10,7 +10,7 @@ use Rattle.schedule.proofs.ManyRuns.{busy-many}
 use Rattle.schedule.proofs.Busy as mBusy
 use Rattle.schedule.proofs.Busy.Laws as mBusy′
 use Rattle.records.proofs.Walking.{both-so}
-use Rattle.records.proofs.ThinCalls.{two-keeps}
+use Rattle.records.proofs.ThinCalls.{thin-keeps}
 use Rattle.busy.proofs.busy_held.Symbol as h-def
 use Rattle.busy.proofs.busy_held.Met as h-thm
 use Rattle.busy.proofs.busy.Key.{name as #key}
@@ -20,9 +20,9 @@ use Rattle.busy.proofs.busy.Code as code
 pub busy-spec : {M : Type 1} → stated.statement M
 unfolding code.routine
 busy-spec 𝓤 H 𝓜 𝓖 𝓡 =
-    two-keeps mBusy.the-row 𝓤 H 𝓜 𝓖 𝓡 mBusy′.mir (LL.lawful mBusy.the-type mBusy′.the-laws 𝓤 H (𝓖 .A) (givenOf 𝓤 H 𝓜 𝓖) .typed)
-    (λ runs ab. busyReply runs (ab .0) (ab .1)) (λ ab. busy-many (ab .0) (ab .1))
-    (λ runs ab r. sep 𝓤 (fact 𝓤 (r ≡ busyReply runs (ab .0) (ab .1))) (fact 𝓤 (CountsTicks runs (ab .0) (ab .1) r)))
-    (λ runs ab r e. both-so 𝓤 (r ≡ busyReply runs (ab .0) (ab .1)) (CountsTicks runs (ab .0) (ab .1) r) e (counts-ticks runs (ab .0) (ab .1) r e))
+    thin-keeps 2 mBusy.the-row 𝓤 H 𝓜 𝓖 𝓡 mBusy′.mir (LL.lawful mBusy.the-type mBusy′.the-laws 𝓤 H (𝓖 .A) (givenOf 𝓤 H 𝓜 𝓖) .typed)
+    (λ runs ab. busyReply runs (ab .0) (ab .1 .0)) (λ ab. busy-many (ab .0) (ab .1 .0))
+    (λ runs ab r. sep 𝓤 (fact 𝓤 (r ≡ busyReply runs (ab .0) (ab .1 .0))) (fact 𝓤 (CountsTicks runs (ab .0) (ab .1 .0) r)))
+    (λ runs ab r e. both-so 𝓤 (r ≡ busyReply runs (ab .0) (ab .1 .0)) (CountsTicks runs (ab .0) (ab .1 .0) r) e (counts-ticks runs (ab .0) (ab .1 .0) r e))
     code.env code.calls-records·columns-of h-def.name h-def.routine code.calls-busy·busy-held (h-thm.met 𝓤 H 𝓜 𝓖 𝓡)
     #key (code.unfolded 𝓤 H 𝓜 𝓡)

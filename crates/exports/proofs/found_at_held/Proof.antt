@@ -5,14 +5,7 @@ use Rattle.exports.specs.QueryReplies.{foundReply}
 use Rattle.exports.proofs.found_at_held.Statement.{statement}
 use Rattle.exports.proofs.found_at_held.Tie as tie
 
-run-at-held-requires : tie.Need-run-at-held-requires
-run-at-held-requires c κs = search needs
-
-found-reply-requires : tie.Need-found-reply-requires
-found-reply-requires c κs = search needs
-
-returns : tie.Need-returns
-returns c = c .found-reply .ensures ∙ ap foundReply (c .before .run-at-held .ensures)
-
 pub found-at-held-spec : {M : Type 1} → statement M
-found-at-held-spec = tie.close (tie.spec run-at-held-requires found-reply-requires returns)
+found-at-held-spec =
+    tie.close
+    (tie.spec (λ c κs. search needs) (λ c κs. search needs) (λ c. c .found-reply .ensures ∙ ap foundReply (c .before .run-at-held .ensures)))

@@ -5,14 +5,7 @@ use Rattle.exports.specs.QueryReplies.{foundReply}
 use Rattle.exports.proofs.found_from_held.Statement.{statement}
 use Rattle.exports.proofs.found_from_held.Tie as tie
 
-run-from-held-requires : tie.Need-run-from-held-requires
-run-from-held-requires c κs = search needs
-
-found-reply-requires : tie.Need-found-reply-requires
-found-reply-requires c κs = search needs
-
-returns : tie.Need-returns
-returns c = c .found-reply .ensures ∙ ap foundReply (c .before .run-from-held .ensures)
-
 pub found-from-held-spec : {M : Type 1} → statement M
-found-from-held-spec = tie.close (tie.spec run-from-held-requires found-reply-requires returns)
+found-from-held-spec =
+    tie.close
+    (tie.spec (λ c κs. search needs) (λ c κs. search needs) (λ c. c .found-reply .ensures ∙ ap foundReply (c .before .run-from-held .ensures)))

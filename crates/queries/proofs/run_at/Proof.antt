@@ -10,7 +10,7 @@ use Rattle.schedule.proofs.ManyRuns.{at-many}
 use Rattle.schedule.proofs.Found as mFound
 use Rattle.schedule.proofs.Found.Laws as mFound′
 use Rattle.records.proofs.Walking.{both-so}
-use Rattle.records.proofs.ThinCalls.{one-keeps}
+use Rattle.records.proofs.ThinCalls.{thin-keeps}
 use Rattle.queries.proofs.run_at_held.Symbol as h-def
 use Rattle.queries.proofs.run_at_held.Met as h-thm
 use Rattle.queries.proofs.run_at.Key.{name as #key}
@@ -20,9 +20,9 @@ use Rattle.queries.proofs.run_at.Code as code
 pub run-at-spec : {M : Type 1} → stated.statement M
 unfolding code.routine
 run-at-spec 𝓤 H 𝓜 𝓖 𝓡 =
-    one-keeps mFound.the-row 𝓤 H 𝓜 𝓖 𝓡 mFound′.mir (EL.lawful mFound.the-type mFound′.the-laws 𝓤 H (𝓖 .A) (givenOf 𝓤 H 𝓜 𝓖) tt .typed)
-    runAtTick at-many
-    (λ runs tick r. sep 𝓤 (fact 𝓤 (r ≡ runAtTick runs tick)) (fact 𝓤 (HoldsTick runs tick r)))
-    (λ runs tick r e. both-so 𝓤 (r ≡ runAtTick runs tick) (HoldsTick runs tick r) e (holds-tick runs tick r e))
+    thin-keeps 1 mFound.the-row 𝓤 H 𝓜 𝓖 𝓡 mFound′.mir (EL.lawful mFound.the-type mFound′.the-laws 𝓤 H (𝓖 .A) (givenOf 𝓤 H 𝓜 𝓖) tt .typed)
+    (λ runs x. runAtTick runs (x .0)) (λ x. at-many (x .0))
+    (λ runs x r. sep 𝓤 (fact 𝓤 (r ≡ runAtTick runs (x .0))) (fact 𝓤 (HoldsTick runs (x .0) r)))
+    (λ runs x r e. both-so 𝓤 (r ≡ runAtTick runs (x .0)) (HoldsTick runs (x .0) r) e (holds-tick runs (x .0) r e))
     code.env code.calls-records·columns-of h-def.name h-def.routine code.calls-queries·run-at-held (h-thm.met 𝓤 H 𝓜 𝓖 𝓡)
     #key (code.unfolded 𝓤 H 𝓜 𝓡)

@@ -21,13 +21,13 @@ runIn columns k = runAt (columns .starts) (columns .ends) (columns .tasks) k
 -- the first runs of an array that is filled with the runs of columns are those that the columns hold
 rows-held : (columns : RunColumns) (rows : List Run) (i : ℕ) → HeldColumns columns → columns .count ≤ i
     → Filled noRun (runIn columns) heldRuns (columns .count) i rows → take (columns .count) rows ≡ runsHeld columns
-unfolding runsHeld runsOf runAt
+unfolding runsOf runAt
 rows-held columns rows i held all f =
     let n = columns .count in
     let starts = columns .starts in
     let ends = columns .ends in
     let tasks = columns .tasks in
-    let long : length (take n starts) ≡ n = length-take-le n starts (held .starts-held) in
+    let long : length (take n starts) ≡ n = held .starts .lent in
     places-is (runAt (take n starts) (take n ends) (take n tasks)) (length (take n starts)) noRun (take n rows)
     (rw long (length-take-le n rows (omega (arith, f .length-is, held .few))))
     (λ k h.
