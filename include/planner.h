@@ -37,8 +37,8 @@
  *   6       a release frame is not below the deadline frame                  the lowest such position
  *   7       the table is neither nested nor similar                          the lowest position such that the tasks up to and with it are of
  *                                                                            neither kind
- *   8       no running completes all mandatory parts                         the first task in its kind's order where the mandatory ticks up to
- *                                                                            and with it can't be met
+ *   8       no running completes all mandatory parts                         the position of the first task in its kind's order where the
+ *                                                                            mandatory ticks up to and with it can't be met
  *   9       a lent list is too short                                         0
  *   10      a moved frame is below 0 or above 131071                         the lowest such position
  *   11      the keep list is not n long, or a mark is above 1                n if the length is wrong, else the first bad mark

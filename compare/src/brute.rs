@@ -197,7 +197,7 @@ fn in_order(table: &Table, launch: u32, nested: bool) -> Vec<Job> {
     positions.into_iter().map(job).collect()
 }
 
-/// What planning at a launch tick owes a table whose windows are forward. An error says where the rules contradict one another.
+/// What planning at a launch tick owes a table of which no window is bad. An error says where the rules contradict one another.
 pub fn best(table: &Table, launch: u32) -> Result<Answer, String> {
     if let Some(k) = first_of_neither(table.tasks()) {
         return Ok(Err((7, k)));

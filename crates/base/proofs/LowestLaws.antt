@@ -1,6 +1,7 @@
 -- Laws of the lowest position that passes a test.
 use Prim.Native.Nat.{ℕ, zero, suc, _+_, _-_, _≤_, _<_, max}
 use mathlib.Core.Path.{_≡_, refl, sym, ap, _∙_}
+use mathlib.Core.Logic.{_↔_}
 use mathlib.Core.Bool.{Bool, true, false}
 use native.Mathlib.Omega.{arith}
 use native.Mathlib.Numerals.{add-one}
@@ -8,7 +9,7 @@ use native.Mathlib.Decide.{decLe, decLt}
 use lib.Dec.{ltb, leb}
 use borrow.Author.Tests.{ltb-true, ltb-false, leb-true, lt-ltb, le-ltb, le-leb, lt-leb}
 use Rattle.base.specs.Tests.{and, or}
-use Rattle.base.specs.Lowest.{lowestFrom, lowest, someBelow}
+use Rattle.base.specs.Lowest.{lowestFrom, lowest, someBelow, everyBelow}
 use Rattle.base.proofs.TestLaws.{cases, pick-true, pick-false, both-absurd, and-true, and-left, and-right}
 
 -- the search at a position that passes, at one that does not, and at the end
@@ -183,6 +184,34 @@ some-more test n =
     (none-some test (n + 1) (λ k l.
     elim (decLt k n) [ yes m ↦ no-some test n e k m | no m ↦ let s : k ≡ n = omega arith in rw s p ])))))
 
+-- every position below n passes, said of each
+pub every-below : (test : ℕ → Bool) (n : ℕ) → (everyBelow test n ≡ true) ↔ ((k : ℕ) → k < n → test k ≡ true)
+unfolding everyBelow
+every-below test zero = (λ e k l. absurd (omega arith), λ h. refl)
+every-below test (suc n) = (
+  λ e k l.
+      elim (decLt k n) [
+        | yes m ↦ every-below test n .0 (and-right (test n) (everyBelow test n) e) k m
+        | no m ↦ let s : k ≡ n = omega arith in rw s (and-left (test n) (everyBelow test n) e)
+      ],
+  λ h. and-true (test n) (everyBelow test n) (h n (omega arith)) (every-below test n .1 (λ k l. h k (omega arith))),
+)
+
+-- one position more, and a position that fails
+pub every-more : (test : ℕ → Bool) (n : ℕ) → everyBelow test n ≡ true → test n ≡ true → everyBelow test (n + 1) ≡ true
+unfolding everyBelow
+every-more test n all here = rw (add-one n) (and-true (test n) (everyBelow test n) here all)
+
+pub every-fails : (test : ℕ → Bool) (n k : ℕ) → k < n → test k ≡ false → everyBelow test n ≡ false
+every-fails test n k l e =
+    cases (everyBelow test n) (λ all. both-absurd (test k) (every-below test n .0 all k l) e) (λ none. none)
+
+-- tests that agree below n pass everywhere alike
+pub every-same : (f g : ℕ → Bool) (n : ℕ) → ((k : ℕ) → k < n → f k ≡ g k) → everyBelow f n ≡ everyBelow g n
+unfolding everyBelow
+every-same f g zero h = refl
+every-same f g (suc n) h = rw (h n (omega arith), every-same f g n (λ k l. h k (omega arith)))
+
 -- A search from the first position upwards: no position below k passes the test, so the lowest is still to be found from k on.
 pub record Searched (test : ℕ → Bool) (n k : ℕ) : Type 0 where
   pub within-is : k ≤ n
@@ -206,8 +235,3 @@ pub search-end : (test : ℕ → Bool) (n k : ℕ) → Searched test n k → n �
 search-end test n k s l =
     let e : n ≡ k = omega (arith, s .within-is) in
     rw (← e) (sym (from-end test n) ∙ rw e (rw e at (s .left)))
-
--- no position is left, and so none passes
-pub search-none : (test : ℕ → Bool) (n k : ℕ) → Searched test n k → n ≤ k → someBelow test n ≡ false
-unfolding someBelow
-search-none test n k s l = le-ltb (lowest test n) n (omega (arith, search-end test n k s l))

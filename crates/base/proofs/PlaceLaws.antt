@@ -5,9 +5,9 @@ use mathlib.Core.List.{List, [], _∷_, _++_, reverse, reverse-append}
 use native.Mathlib.Nat.{add-zero}
 use native.Mathlib.Omega.{arith}
 use native.Mathlib.Numerals.{add-one}
-use lib.ListN.{length, getD, take, length-take}
-use lib.Seq.{ext-getD, getD-take}
-use Rattle.base.specs.Places.{placesFrom, places, firstPlaces}
+use lib.ListN.{length, getD}
+use lib.Seq.{ext-getD}
+use Rattle.base.specs.Places.{placesFrom, places}
 
 -- there are as many places as asked for, from any place on
 pub from-length : {A : Type 0} (at : ℕ → A) (i n : ℕ) → length (placesFrom at i n) ≡ n
@@ -52,11 +52,6 @@ pub places-is : {A : Type 0} (at : ℕ → A) (n : ℕ) (d : A) (l : List A) →
 places-is at n d l e h =
     ext-getD d l (places at n) (rw (e, places-length at n))
     (λ k m. rw (places-at at n k d (omega arith)) (h k (omega arith)))
-
--- the first n elements of an array that has as many are what `take` takes
-pub take-places : {A : Type 0} (blank : A) (l : List A) (n : ℕ) → n ≤ length l → take n l ≡ firstPlaces blank l n
-take-places blank l n h =
-    places-is (λ k. getD l k blank) n blank (take n l) (rw (length-take n l) (omega arith)) (λ k m. getD-take n l k blank m)
 
 -- so many places, and so many after them
 from-append : {A : Type 0} (at : ℕ → A) (i a b : ℕ) → placesFrom at i (a + b) ≡ placesFrom at i a ++ placesFrom at (i + a) b

@@ -1,13 +1,11 @@
 -- A list that is stored into an array element by element, from the first place upwards.
 use Prim.Native.Nat.{ℕ, _+_, _≤_, _<_}
-use mathlib.Core.Path.{_≡_, refl, sym, _∙_}
-use mathlib.Core.List.{List, [], _∷_, _++_, append-assoc, append-nil}
+use mathlib.Core.Path.{_≡_, refl}
+use mathlib.Core.List.{List, [], _∷_, _++_, append-assoc}
 use native.Mathlib.Omega.{arith}
 use native.Mathlib.Numerals.{add-one}
 use lib.ListN.{length, take, set, length-set}
 use lib.Seq.{take-suc-set}
-use Rattle.base.specs.Places.{firstPlaces}
-use Rattle.base.proofs.PlaceLaws.{take-places}
 
 -- the first n places of an array that has room for the whole list hold what stands in it before `rest`
 pub record Stored {A : Type 0} (whole rest : List A) (n : ℕ) (array : List A) : Type 0 where
@@ -29,9 +27,3 @@ stored-next whole rest n array x s =
       reached = omega arith;
       joined = rw (add-one n, take-suc-set array n x h, append-assoc (take n array) (x ∷ []) rest) (s .joined);
     }
-
--- once nothing is left, the first n places hold the whole list
-pub stored-whole : {A : Type 0} (blank : A) (whole : List A) (n : ℕ) (array : List A) → Stored whole [] n array → firstPlaces blank array n ≡ whole
-stored-whole blank whole n array s =
-    let h : n ≤ length array = omega arith in
-    sym (take-places blank array n h) ∙ (sym (append-nil (take n array)) ∙ s .joined)

@@ -1,8 +1,6 @@
--- Laws of tests and of what a test picks.
-
-use mathlib.Core.Path.{_≡_, refl, sym, subst, subst⁻¹}
-use mathlib.Core.Bool.{Bool, true, false, _&&_, _||_}
-use lib.Dec.{T}
+-- Laws of tests and of what a test picks, beside those of the library (`mathlib.Core.Bool`).
+use mathlib.Core.Path.{_≡_, refl, sym, _∙_}
+use mathlib.Core.Bool.{Bool, true, false, true≢false, and-eq-true-iff}
 use Rattle.base.specs.Tests.{pick, and, or}
 
 -- a test is true or false
@@ -12,7 +10,7 @@ cases false f g = g refl
 
 -- no test is both
 pub both-absurd : {C : Type 0} (b : Bool) → b ≡ true → b ≡ false → C
-both-absurd b p q = absurd (subst T q (subst⁻¹ T p tt))
+both-absurd b p q = absurd (true≢false (sym p ∙ q))
 
 -- what is picked by a test that holds, and by one that does not
 pub pick-true : {A : Type 0} (b : Bool) (x y : A) → b ≡ true → pick b x y ≡ x
@@ -28,24 +26,17 @@ pick-same false x = refl
 
 -- both tests hold exactly where each does
 pub and-true : (a b : Bool) → a ≡ true → b ≡ true → and a b ≡ true
-and-true a b p q = rw (p, q)
+and-true a b p q = and-eq-true-iff a b .1 (p, q)
 
 pub and-left : (a b : Bool) → and a b ≡ true → a ≡ true
-and-left true b e = refl
-and-left false b e = e
+and-left a b e = and-eq-true-iff a b .0 e .0
 
 pub and-right : (a b : Bool) → and a b ≡ true → b ≡ true
-and-right true b e = e
-and-right false b e = both-absurd false e refl
+and-right a b e = and-eq-true-iff a b .0 e .1
 
--- a test that stands twice, and a test beside one that does not hold
-pub and-again : (a b : Bool) → and a (and a b) ≡ and a b
-and-again true b = refl
-and-again false b = refl
-
-pub and-none : (a : Bool) → and a false ≡ false
-and-none true = refl
-and-none false = refl
+-- where not both tests hold and the first does, the second does not
+pub and-not-second : (a b : Bool) → and a b ≡ false → a ≡ true → b ≡ false
+and-not-second a b e p = rw p at e
 
 -- neither test holds exactly where each does not
 pub or-false : (a b : Bool) → a ≡ false → b ≡ false → or a b ≡ false
@@ -59,21 +50,12 @@ pub or-right : (a b : Bool) → or a b ≡ false → b ≡ false
 or-right true b e = both-absurd true refl e
 or-right false b e = e
 
--- the second test of two, where the first does not hold
-pub or-second : (a b : Bool) → a ≡ false → or a b ≡ b
-or-second a b p = rw p
-
+-- where the first test holds, one does; where it does not, the second decides
 pub or-first : (a b : Bool) → a ≡ true → or a b ≡ true
 or-first a b p = rw p
 
--- the tests that the code computes with `&` and `|`
-pub and-is : (a b : Bool) → (a && b) ≡ and a b
-and-is true b = refl
-and-is false b = refl
-
-pub or-is : (a b : Bool) → (a || b) ≡ or a b
-or-is true b = refl
-or-is false b = refl
+pub or-second : (a b : Bool) → a ≡ false → or a b ≡ b
+or-second a b p = rw p
 
 -- two tests are equal where each holds if the other does
 pub same-test : (a b : Bool) → (a ≡ true → b ≡ true) → (b ≡ true → a ≡ true) → a ≡ b
@@ -90,12 +72,3 @@ pick-cases P false f g = g refl
 pub picked : {A C : Type 0} (P : A → Type 0) (b : Bool) {x y : A} → P (pick b x y) → (b ≡ true → P x → C) → (b ≡ false → P y → C) → C
 picked P true h f g = f refl h
 picked P false h f g = g refl h
-
--- where not both tests hold and the first does, the second does not
-pub and-not-second : (a b : Bool) → and a b ≡ false → a ≡ true → b ≡ false
-and-not-second a b e p = rw p at e
-
--- where the second test holds, one does
-pub or-true : (b : Bool) → or b true ≡ true
-or-true true = refl
-or-true false = refl

@@ -4,3 +4,4 @@ pub mod Lowest
 pub mod Places
 pub mod Members
 pub mod Lent
+pub mod Arrays

@@ -1,13 +1,18 @@
--- The limits of the planner, named once for every definition. The code's names for the same numbers are the constants of src/lib.rt.
+-- The limits of the planner, named once for every definition. The code's names for the same numbers are the constants of src/lib.rt; `lastTick` has none.
+-- `maxTicks` and `lastTick` stand in proofs and in contracts of inner functions: writing's 12 goes by the width of a field.
 use Prim.Native.Nat.{ℕ, _+_, _-_, _*_}
 
 -- the most tasks of a table, and the places of a table value
 abbrev pub maxTasks : ℕ
 maxTasks = 64
 
--- the most runs of a plan: 2n − 1 for n tasks
+-- the most runs of a plan of n tasks: 'For n tasks there are never more than 2n − 1.'
+abbrev pub mostRuns : ℕ → ℕ
+mostRuns n = 2 * n - 1
+
+-- the most runs of a plan
 abbrev pub maxPlanRuns : ℕ
-maxPlanRuns = 2 * maxTasks - 1
+maxPlanRuns = mostRuns maxTasks
 
 -- the most runs of a run list
 abbrev pub maxRuns : ℕ

@@ -1,6 +1,5 @@
 -- Members of lists.
-use Prim.Native.Nat.{ℕ}
-use mathlib.Core.Logic.{_⊎_, _≢_}
+use mathlib.Core.Logic.{_⊎_}
 use mathlib.Core.List.{List, [], _∷_}
 
 -- every member of a list is P, and some member is
@@ -11,8 +10,3 @@ All P (x ∷ xs) = P x × All P xs
 abbrev pub Any : {A : Type 0} → (A → Type 0) → List A → Type 0
 Any P [] = ⊥
 Any P (x ∷ xs) = P x ⊎ Any P xs
-
--- no number stands twice
-abbrev pub Distinct : List ℕ → Type 0
-Distinct [] = Unit {0}
-Distinct (i ∷ is) = All (λ k. i ≢ k) is × Distinct is

@@ -1,7 +1,6 @@
 -- Lists given place by place.
 use Prim.Native.Nat.{ℕ, zero, suc}
 use mathlib.Core.List.{List, [], _∷_}
-use lib.ListN.{getD}
 
 -- what stands at the `count` places from `first` on
 unfoldable pub placesFrom : {A : Type 0} → (ℕ → A) → ℕ → ℕ → List A
@@ -11,7 +10,3 @@ placesFrom at first (suc count) = at first ∷ placesFrom at (suc first) count
 -- the list of n places with `at k` at place k
 unfoldable pub places : {A : Type 0} → (ℕ → A) → ℕ → List A
 places at n = placesFrom at 0 n
-
--- the first n elements of an array; `blank` stands for one that it lacks
-abbrev pub firstPlaces : {A : Type 0} → A → List A → ℕ → List A
-firstPlaces blank array n = places (λ k. getD array k blank) n

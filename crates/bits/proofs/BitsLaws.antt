@@ -1,4 +1,4 @@
--- The laws of bit-packed fields. Assumes nothing.
+-- The laws of bit-packed fields.
 use Prim.Native.Nat.{ℕ, zero, suc, _+_, _-_, _*_, _/_, _%_, _^_, _≤_, _<_}
 use mathlib.Core.Path.{_≡_, refl, sym, ap, _∙_}
 use mathlib.Core.List.{List, [], _∷_, _++_}
@@ -9,7 +9,11 @@ use native.Mathlib.Omega.{arith}
 use lib.ListN.{length, getD, List·getD-append, List·getD-eq-default}
 use lib.Pow.{high, shr-shr}
 use lib.Seq.{ext-getD, getD-append-add}
-use Rattle.bits.specs.Bits.{Bit, Bytes, bitAt, number, field, bitsOf, bitIn, bytesFrom, bytesFor, pack}
+use Rattle.bits.specs.Bits.{Bytes, bitAt, number, field, bitsOf, bitIn, bytesFrom, bytesFor, pack}
+
+-- Every bit of a string of bits is 0 or 1.
+abbrev pub Binary : (ℕ → ℕ) → Type 0
+Binary bit = (k : ℕ) → bit k ≤ 1
 
 -- Numbers with equal digits are equal.
 pub number-ext : (f g : ℕ → ℕ) (a b w : ℕ) → ((k : ℕ) → k < w → f (a + k) ≡ g (b + k)) → number f a w ≡ number g b w
@@ -24,7 +28,7 @@ number-add f a v zero = rw (add-zero v) (omega arith)
 number-add f a v (suc w) = rw (add-suc v w, pow-suc 2 w, ← add-assoc a v w) (omega (arith, number-add f a v w))
 
 -- A number of w binary digits is below 2 ^ w.
-pub number-lt : (f : ℕ → ℕ) → Bit f → (a w : ℕ) → number f a w < 2 ^ w
+pub number-lt : (f : ℕ → ℕ) → Binary f → (a w : ℕ) → number f a w < 2 ^ w
 unfolding number
 number-lt f bit a zero = omega arith
 number-lt f bit a (suc w) = omega (arith, number-lt f bit a w, bit (a + w))
@@ -43,13 +47,13 @@ zero-number f a (suc w) none k h =
     elim (eq-or-lt-of-le h) [ inl e ↦ rw (suc-inj e) (omega arith) | inr l ↦ zero-number f a w (omega arith) k (le-of-suc-le-suc l) ]
 
 -- A digit of a number, from the v digits after it.
-number-digit : (f : ℕ → ℕ) → Bit f → (a j v : ℕ) → number f a (suc j + v) / 2 ^ v % 2 ≡ f (a + j)
+number-digit : (f : ℕ → ℕ) → Binary f → (a j v : ℕ) → number f a (suc j + v) / 2 ^ v % 2 ≡ f (a + j)
 unfolding number
 number-digit f bit a j v =
     rw (number-add f a (suc j) v, high (number f a (suc j)) v (number-lt f bit (a + suc j) v)) (omega (arith, bit (a + j)))
 
 -- A digit of a number, by its place from the front.
-pub number-at : (f : ℕ → ℕ) → Bit f → (a w j : ℕ) → j < w → number f a w / 2 ^ (w - 1 - j) % 2 ≡ f (a + j)
+pub number-at : (f : ℕ → ℕ) → Binary f → (a w j : ℕ) → j < w → number f a w / 2 ^ (w - 1 - j) % 2 ≡ f (a + j)
 number-at f bit a w j h =
     let e : w ≡ suc j + (w - 1 - j) = omega arith in
     ap (λ x. number f a x / 2 ^ (w - 1 - j) % 2) e ∙ number-digit f bit a j (w - 1 - j)
@@ -67,7 +71,7 @@ number-prefix f a w x fits digits (suc j) h =
     omega arith
 
 -- Each bit of a byte string is 0 or 1.
-pub bitAt-le : (s : List ℕ) → Bit (bitAt s)
+pub bitAt-le : (s : List ℕ) → Binary (bitAt s)
 unfolding bitAt
 bitAt-le s k = omega arith
 
@@ -111,18 +115,10 @@ bytes-at : (f : ℕ → ℕ) (n k : ℕ) → k < n → getD (bytesFrom f 0 n) k 
 bytes-at f n k h = bytesFrom-at f 0 n k h ∙ rw zero-add
 
 -- The bits of the bytes are the bits that were packed.
-pub bytesFrom-bit : (f : ℕ → ℕ) → Bit f → (n k : ℕ) → k < 8 * n → bitAt (bytesFrom f 0 n) k ≡ f k
+pub bytesFrom-bit : (f : ℕ → ℕ) → Binary f → (n k : ℕ) → k < 8 * n → bitAt (bytesFrom f 0 n) k ≡ f k
 unfolding bitAt
 bytesFrom-bit f bit n k h =
     rw (bytes-at f n (k / 8) (omega arith)) (number-at f bit (8 * (k / 8)) 8 (k % 8) (omega arith) ∙ ap f (omega arith))
-
--- Packed bits are bytes.
-pub bytesFrom-bytes : (f : ℕ → ℕ) → Bit f → (n : ℕ) → Bytes (bytesFrom f 0 n)
-bytesFrom-bytes f bit n k =
-    elim (decLe n k) [
-      | yes h ↦ omega (arith, List·getD-eq-default (bytesFrom f 0 n) 0 {n = k} (rw bytesFrom-length h))
-      | no h ↦ rw (bytes-at f n k (omega arith)) (number-lt f bit (8 * k) 8)
-    ]
 
 -- The bits of a byte string, packed, are the byte string.
 pub bytesFrom-same : (s : List ℕ) → Bytes s → bytesFrom (bitAt s) 0 (length s) ≡ s
@@ -145,7 +141,7 @@ bitsOf-length zero v = refl
 bitsOf-length (suc w) v = ap suc (bitsOf-length w v)
 
 -- Each bit of a value is 0 or 1.
-pub bitsOf-le : (w v : ℕ) → Bit (bitIn (bitsOf w v))
+pub bitsOf-le : (w v : ℕ) → Binary (bitIn (bitsOf w v))
 unfolding bitIn bitsOf
 bitsOf-le zero v k = omega arith
 bitsOf-le (suc w) v zero = omega arith
@@ -168,7 +164,7 @@ bitsOf-number w v fits =
     number-prefix (bitIn (bitsOf w v)) 0 w v fits (λ k h. rw zero-add (bitsOf-at w v k h)) w (omega arith) ∙ rw (sub-self, div-one)
 
 -- The bits of a number are the bits that it was read from.
-pub number-bits : (f : ℕ → ℕ) → Bit f → (a w j : ℕ) → j < w → bitIn (bitsOf w (number f a w)) j ≡ f (a + j)
+pub number-bits : (f : ℕ → ℕ) → Binary f → (a w j : ℕ) → j < w → bitIn (bitsOf w (number f a w)) j ≡ f (a + j)
 number-bits f bit a w j h = bitsOf-at w (number f a w) j h ∙ number-at f bit a w j h
 
 -- A bit of the first of two lists of bits.
@@ -187,13 +183,13 @@ unfolding bitIn
 bitIn-end a k h = List·getD-eq-default a 0 h
 
 -- One bit is a list of bits.
-pub bitIn-one : (b : ℕ) → b ≤ 1 → Bit (bitIn (b ∷ []))
+pub bitIn-one : (b : ℕ) → b ≤ 1 → Binary (bitIn (b ∷ []))
 unfolding bitIn
 bitIn-one b h zero = h
 bitIn-one b h (suc k) = omega arith
 
 -- Two lists of bits, joined, are a list of bits.
-pub bitIn-append-le : (a b : List ℕ) → Bit (bitIn a) → Bit (bitIn b) → Bit (bitIn (a ++ b))
+pub bitIn-append-le : (a b : List ℕ) → Binary (bitIn a) → Binary (bitIn b) → Binary (bitIn (a ++ b))
 bitIn-append-le a b bits more k =
     elim (decLe (length a) k) [
       | yes h ↦ omega (arith, more (k - length a), bitIn-right a b (k - length a), ap (bitIn (a ++ b)) (add-sub-of-le h))
@@ -205,37 +201,20 @@ pub pack-length : (bits : List ℕ) → length (pack bits) ≡ bytesFor (length 
 unfolding pack
 pack-length bits = bytesFrom-length (bitIn bits) 0 (bytesFor (length bits))
 
--- Packed bits are bytes.
-pub pack-bytes : (bits : List ℕ) → Bit (bitIn bits) → Bytes (pack bits)
-unfolding pack
-pack-bytes bits bit = bytesFrom-bytes (bitIn bits) bit (bytesFor (length bits))
-
 -- A byte of packed bits is the number of its eight bits.
 pub pack-at : (bits : List ℕ) (k : ℕ) → k < bytesFor (length bits) → getD (pack bits) k 0 ≡ number (bitIn bits) (8 * k) 8
 unfolding pack
 pack-at bits k h = bytes-at (bitIn bits) (bytesFor (length bits)) k h
 
 -- A bit of packed bits is the bit that was packed.
-pub pack-bit : (bits : List ℕ) → Bit (bitIn bits) → (k : ℕ) → k < 8 * bytesFor (length bits) → bitAt (pack bits) k ≡ bitIn bits k
+pub pack-bit : (bits : List ℕ) → Binary (bitIn bits) → (k : ℕ) → k < 8 * bytesFor (length bits) → bitAt (pack bits) k ≡ bitIn bits k
 unfolding pack
 pack-bit bits bit k h = bytesFrom-bit (bitIn bits) bit (bytesFor (length bits)) k h
-
--- A field of packed bits is the number of the bits that were packed.
-pub field-pack : (bits : List ℕ) → Bit (bitIn bits) → (a w : ℕ) → a + w ≤ 8 * bytesFor (length bits) → field (pack bits) a w ≡ number (bitIn bits) a w
-unfolding field
-field-pack bits bit a w h = number-ext (bitAt (pack bits)) (bitIn bits) a a w (λ k l. pack-bit bits bit (a + k) (omega arith))
 
 -- A byte string that has the bits of a list is the list, packed.
 pub pack-same : (s bits : List ℕ) → Bytes s → length s ≡ bytesFor (length bits) → ((k : ℕ) → k < 8 * length s → bitIn bits k ≡ bitAt s k) → pack bits ≡ s
 unfolding pack
 pack-same s bits bytes size same = rw (← size) (bytesFrom-ext (bitIn bits) (bitAt s) (length s) same ∙ bytesFrom-same s bytes)
-
--- The bits of a value in a list of bits, read as a number, are the value.
-pub field-value : (a b : List ℕ) (w v : ℕ) → v < 2 ^ w → number (bitIn (a ++ (bitsOf w v ++ b))) (length a) w ≡ v
-field-value a b w v fits =
-    number-ext (bitIn (a ++ (bitsOf w v ++ b))) (bitIn (bitsOf w v)) (length a) 0 w (λ k h.
-    rw (bitIn-right, zero-add) (bitIn-left (bitsOf w v) b k (rw bitsOf-length h)))
-    ∙ bitsOf-number w v fits
 
 -- The bits of a field that is 0 are 0.
 pub field-zero : (s : List ℕ) (a w : ℕ) → field s a w ≡ 0 → (k : ℕ) → k < w → bitAt s (a + k) ≡ 0

@@ -1,4 +1,4 @@
--- The laws of a field read or put byte by byte: each piece lies within one byte. Assumes nothing.
+-- The laws of a field read or put byte by byte: each piece lies within one byte.
 use Prim.Native.Nat.{ℕ, zero, suc, _+_, _-_, _*_, _/_, _%_, _^_, _≤_, _<_}
 use mathlib.Core.Path.{_≡_, refl, sym, ap, _∙_}
 use mathlib.Core.List.{List, _++_}
@@ -47,9 +47,9 @@ pub field-up-lt : (s : List ℕ) (a w u : ℕ) → w + u ≤ 64 → field s a w 
 field-up-lt s a w u h = omega (arith, shl-lt w u (field-lt s a w), pow-mono {i = w + u} {j = 64} h)
 
 -- Two bytes, each shifted up to its place as it is computed, are a field of 16 bits shifted up.
-pub two-bytes : (s : List ℕ) (k u : ℕ) → u ≤ 48 → getD s k 0 < 256 → getD s (k + 1) 0 < 256
+pub bytes-field : (s : List ℕ) (k u : ℕ) → u ≤ 48 → getD s k 0 < 256 → getD s (k + 1) 0 < 256
     → (getD s k 0 * 2 ^ (8 + u)) % 18446744073709551616 + (getD s (k + 1) 0 * 2 ^ u) % 18446744073709551616 ≡ field s (8 * k) 16 * 2 ^ u
-two-bytes s k u h l m =
+bytes-field s k u h l m =
     rw (
       ← byte-whole s k l,
       ← byte-whole s (k + 1) m,

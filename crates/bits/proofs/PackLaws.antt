@@ -1,4 +1,4 @@
--- The laws of packing bits one after another. Assumes nothing.
+-- The laws of packing bits one after another.
 use Prim.Native.Nat.{ℕ, suc, _+_, _-_, _*_, _/_, _%_, _^_, _≤_, _<_}
 use mathlib.Core.Path.{_≡_, refl, sym, ap, _∙_}
 use mathlib.Core.List.{List, [], _∷_, _++_, append-nil}
@@ -8,20 +8,14 @@ use native.Mathlib.Decide.{decLe, ℕ-discrete}
 use native.Mathlib.Omega.{arith}
 use lib.ListN.{length, getD, drop, length-append, length-drop, length-set, List·getD-append}
 use lib.Seq.{append-snoc, ext-getD, getD-append-add, getD-drop, getD-set-other, getD-set-same}
-use Rattle.bits.specs.Bits.{Bit, bitAt, number, field, bitIn, bytesFrom, bytesFor, pack}
+use Rattle.bits.specs.Bits.{bitAt, number, field, bitIn, bytesFrom, bytesFor, pack}
 use Rattle.bits.specs.PutBits.{putBit, putBits}
-use Rattle.bits.proofs.BitsLaws.{number-ext, number-add, number-zero, bitIn-left, bitIn-right, bitIn-end, bitIn-one, bitIn-append-le, pack-length, pack-at, pack-bit}
+use Rattle.bits.proofs.BitsLaws.{Binary, number-ext, number-add, number-zero, bitIn-left, bitIn-right, bitIn-end, bitIn-one, bitIn-append-le, pack-length, pack-at, pack-bit}
 
 -- A bit put into a byte string keeps the string's length.
 pub putBit-length : (s : List ℕ) (k b : ℕ) → length (putBit s k b) ≡ length s
 unfolding putBit
 putBit-length s k b = simp length-set
-
--- So do several.
-pub putBits-length : (s : List ℕ) (start : ℕ) (bits : List ℕ) → length (putBits s start bits) ≡ length s
-unfolding putBits
-putBits-length s start [] = refl
-putBits-length s start (b ∷ bits) = putBits-length (putBit s start b) (suc start) bits ∙ putBit-length s start b
 
 -- Two lists of bits are put one after the other.
 pub putBits-append : (s : List ℕ) (start : ℕ) (a b : List ℕ) → putBits s start (a ++ b) ≡ putBits (putBits s start a) (start + length a) b
@@ -54,7 +48,7 @@ onto-tail bits s k h =
     ap (λ i. getD (onto bits s) i 0) e ∙ getD-append-add (pack bits) (drop n s) (k - n) 0 ∙ getD-drop n s (k - n) 0 ∙ ap (λ i. getD s i 0) (add-sub-of-le h)
 
 -- A bit of the head.
-pub onto-at : (bits s : List ℕ) → Bit (bitIn bits) → (k : ℕ) → k < 8 * bytesFor (length bits) → bitAt (onto bits s) k ≡ bitIn bits k
+pub onto-at : (bits s : List ℕ) → Binary (bitIn bits) → (k : ℕ) → k < 8 * bytesFor (length bits) → bitAt (onto bits s) k ≡ bitIn bits k
 unfolding bitAt
 onto-at bits s bit k h =
     rw (List·getD-append (pack bits) (drop (bytesFor (length bits)) s) 0 (k / 8) (rw pack-length (omega arith))) (pack-bit bits bit k h)
@@ -90,7 +84,7 @@ module _ (bits s : List ℕ) (b : ℕ) where
   longer-bytes = simp length-append (omega arith)
 
   -- The byte that b goes into is the one that `putBit` stores.
-  last-byte : Bit (bitIn bits) → (n : ℕ) → n ≡ length bits
+  last-byte : Binary (bitIn bits) → (n : ℕ) → n ≡ length bits
       → number longer (8 * (n / 8)) 8 ≡ field (onto bits s) (8 * (n / 8)) (n % 8) * 2 ^ (8 - n % 8) + b * 2 ^ (7 - n % 8)
   unfolding field bytesFor
   last-byte bit n size =
@@ -116,7 +110,7 @@ module _ (bits s : List ℕ) (b : ℕ) where
       ]
 
   -- A bit put behind packed bits is packed with them.
-  pub onto-bit : Bit (bitIn bits) → b ≤ 1 → length bits < 8 * length s → putBit (onto bits s) (length bits) b ≡ onto (bits ++ (b ∷ [])) s
+  pub onto-bit : Binary (bitIn bits) → b ≤ 1 → length bits < 8 * length s → putBit (onto bits s) (length bits) b ≡ onto (bits ++ (b ∷ [])) s
   unfolding putBit bytesFor
   onto-bit bit one h =
       let n : ℕ = length bits in
@@ -129,12 +123,12 @@ module _ (bits s : List ℕ) (b : ℕ) where
       ])
 
 -- Bits put behind packed bits are packed with them.
-pub onto-bits : (bits more s : List ℕ) → Bit (bitIn bits) → Bit (bitIn more) → length bits + length more ≤ 8 * length s
+pub onto-bits : (bits more s : List ℕ) → Binary (bitIn bits) → Binary (bitIn more) → length bits + length more ≤ 8 * length s
     → putBits (onto bits s) (length bits) more ≡ onto (bits ++ more) s
 unfolding putBits bitIn
 onto-bits bits [] s bit after h = rw append-nil
 onto-bits bits (b ∷ more) s bit after h =
     let size : length (bits ++ (b ∷ [])) ≡ suc (length bits) = simp length-append (omega arith) in
-    let longer : Bit (bitIn (bits ++ (b ∷ []))) = bitIn-append-le bits (b ∷ []) bit (bitIn-one b (after 0)) in
+    let longer : Binary (bitIn (bits ++ (b ∷ []))) = bitIn-append-le bits (b ∷ []) bit (bitIn-one b (after 0)) in
     rw (onto-bit bits s b bit (after 0) (omega arith), ← size, ← append-snoc bits b more)
     (onto-bits (bits ++ (b ∷ [])) more s longer (λ k. after (suc k)) (omega arith))

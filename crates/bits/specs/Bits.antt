@@ -1,15 +1,11 @@
 -- Bit-packed fields of a byte string, most significant bit first.
-use Prim.Native.Nat.{ℕ, zero, suc, _+_, _-_, _*_, _/_, _%_, _^_, _≤_, _<_}
+use Prim.Native.Nat.{ℕ, zero, suc, _+_, _-_, _*_, _/_, _%_, _^_, _<_}
 use mathlib.Core.List.{List, [], _∷_}
 use lib.ListN.{length, getD}
 
 -- every number of the list is a byte
 abbrev pub Bytes : List ℕ → Type 0
 Bytes s = (k : ℕ) → getD s k 0 < 256
-
--- every bit of a string of bits is 0 or 1
-abbrev pub Bit : (ℕ → ℕ) → Type 0
-Bit bit = (k : ℕ) → bit k ≤ 1
 
 -- bit k of a byte string: the most significant bit of each byte comes first, and beyond the end every bit is 0
 unfoldable pub bitAt : List ℕ → ℕ → ℕ

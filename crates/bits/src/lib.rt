@@ -99,7 +99,7 @@ pub fn join(high: u64, width: usize, low: u32) -> u64
 }
 
 // The two bytes from byte `k` on as one number, shifted up.
-fn two(file: &[u8], k: usize, up: u32) -> u64
+fn two_bytes(file: &[u8], k: usize, up: u32) -> u64
     requires { ⌜ k + 1 < length (now file) ⌝ }
     requires { ⌜ up ≤ 48 ⌝ }
     ensures { λ r. ⌜ r ≡ field (now (file .entry)) (8 * k) 16 * 2 ^ up ⌝ }
@@ -108,20 +108,20 @@ fn two(file: &[u8], k: usize, up: u32) -> u64
 }
 
 // The four bytes from byte `k` on as one number, shifted up.
-fn four(file: &[u8], k: usize, up: u32) -> u64
+fn four_bytes(file: &[u8], k: usize, up: u32) -> u64
     requires { ⌜ k + 3 < length (now file) ⌝ }
     requires { ⌜ up ≤ 32 ⌝ }
     ensures { λ r. ⌜ r ≡ field (now (file .entry)) (8 * k) 32 * 2 ^ up ⌝ }
 {
-    two(file, k, 16 + up) + two(file, k + 2, up)
+    two_bytes(file, k, 16 + up) + two_bytes(file, k + 2, up)
 }
 
 // The eight bytes from byte `k` on as one number. Each byte is shifted once, to its place, which the compiler knows as the loading of one number.
-fn eight(file: &[u8], k: usize) -> u64
+fn eight_bytes(file: &[u8], k: usize) -> u64
     requires { ⌜ k + 7 < length (now file) ⌝ }
     ensures { λ r. ⌜ r ≡ field (now (file .entry)) (8 * k) 64 ⌝ }
 {
-    four(file, k, 32) + four(file, k + 4, 0)
+    four_bytes(file, k, 32) + four_bytes(file, k + 4, 0)
 }
 
 // The field of `width` bits at bit `at`: out of the eight bytes from its first on, and of the byte behind them where it reaches that far.
@@ -132,7 +132,7 @@ fn field_at(file: &[u8], at: usize, width: usize) -> u64
     requires { ⌜ at + width < 2 ^ 64 ⌝ }
     ensures { λ r. ⌜ r ≡ field (now (file .entry)) at width ⌝ }
 {
-    let front = (eight(file, at / 8) << (at % 8) as u32) >> (64 - width) as u32;
+    let front = (eight_bytes(file, at / 8) << (at % 8) as u32) >> (64 - width) as u32;
     let end = at % 8 + width;
     if end <= 64 {
         return front;
@@ -146,7 +146,7 @@ impl Row {
         requires { ⌜ 4 ≤ length (now file) ⌝ }
         ensures { λ r. ⌜ (r .bits ≡ field (now (file .entry)) 0 32) × (r .left ≡ 32) ⌝ }
     {
-        let bits = four(file, 0, 0);
+        let bits = four_bytes(file, 0, 0);
         Row { bits, left: 32 }
     }
 
@@ -179,7 +179,8 @@ impl Cursor {
         requires { ⌜ (1 ≤ width) × (width ≤ 64) ⌝ }
         requires { ⌜ self .at + width ≤ 8 * length (now file) ⌝ }
         requires { ⌜ self .at + width < 2 ^ 64 ⌝ }
-        ensures { λ r. ⌜ (r .row .bits ≡ field (now (file .entry)) (self .at) width) × (r .row .left ≡ width) × (r .next .at ≡ self .at + width) ⌝ }
+        ensures { λ r. ⌜ (r .row .bits ≡ field (now (file .entry)) (self .at) width) × (r .row .left ≡ width)
+            × (r .next .at ≡ self .at + width) ⌝ }
     {
         let start = self.at;
         let bits = field_at(file, start, width);
@@ -193,7 +194,8 @@ impl Cursor {
         requires { ⌜ width ≤ 64 ⌝ }
         requires { ⌜ self .at + width ≤ 8 * length (now out) ⌝ }
         requires { ⌜ self .at + width < 2 ^ 64 ⌝ }
-        ensures { λ r. ⌜ (r .at ≡ self .at + width) × (now (out .exit) ≡ putBits (now (out .entry)) (self .at) (bitsOf width value)) ⌝ }
+        ensures { λ r. ⌜ (r .at ≡ self .at + width)
+            × (now (out .exit) ≡ putBits (now (out .entry)) (self .at) (bitsOf width value)) ⌝ }
     {
         let start = self.at;
         let first = piece_width(start, width);

@@ -1,8 +1,7 @@
 // The busy count of an interval (an entry point): the ticks of the interval that some run holds, added run by run over a list that the check accepts.
 ghost use mathlib.Core.Path.{_≡_};
-ghost use lib.ListN.{length};
-ghost use Rattle.records.specs.RecordColumns.{HeldColumns, runsHeld};
-ghost use Rattle.schedule.specs.Runs.{runsOf};
+ghost use Rattle.records.specs.RecordColumns.{LegalColumns, copiedRuns};
+ghost use Rattle.schedule.specs.LentRuns.{OneLength, runsBefore};
 ghost use Rattle.schedule.specs.BusyCount.{shared, busyReply, CountsTicks};
 use records::RunColumns;
 use schedule::Busy;
@@ -24,8 +23,8 @@ fn shared_ticks(start: u32, end: u32, a: u32, b: u32) -> u32
 // The busy count over runs that stand in three columns of one length. The sum of an accepted list is no more than the interval's ticks, so 32 bits hold it
 // while it is taken, and the compiler adds several runs at a time.
 pub fn busy_columns(starts: &[u32], ends: &[u32], tasks: &[u32], a: u32, b: u32) -> Busy
-    requires { ⌜ (length (now starts) ≡ length (now ends)) × (length (now starts) ≡ length (now tasks)) ⌝ }
-    ensures { λ r. ⌜ r ≡ busyReply (runsOf (now (starts .entry)) (now (ends .entry)) (now (tasks .entry))) a b ⌝ }
+    requires { ⌜ OneLength starts ends tasks ⌝ }
+    ensures { λ r. ⌜ r ≡ busyReply (runsBefore starts ends tasks) a b ⌝ }
 {
     let answer = checking::check(starts, ends);
     let RunsAnswer::Accepted = answer else {
@@ -48,10 +47,10 @@ pub fn busy_columns(starts: &[u32], ends: &[u32], tasks: &[u32], a: u32, b: u32)
     }
 }
 
-// The busy count over runs that were copied into columns.
-pub fn busy_held(columns: RunColumns, a: u32, b: u32) -> Busy
-    requires { ⌜ HeldColumns columns ⌝ }
-    ensures { λ r. ⌜ r ≡ busyReply (runsHeld columns) a b ⌝ }
+// The busy count over runs that were copied into columns. It is public for the crate `exports` alone, which calls it as `busy` does.
+pub fn busy_copied(columns: RunColumns, a: u32, b: u32) -> Busy
+    requires { ⌜ LegalColumns columns ⌝ }
+    ensures { λ r. ⌜ r ≡ busyReply (copiedRuns columns) a b ⌝ }
 {
     let n = columns.count;
     let starts = columns.starts;
@@ -66,5 +65,5 @@ pub fn busy(runs: &[Run], a: u32, b: u32) -> Busy
     ensures reply { λ r. ⌜ r ≡ busyReply (now (runs .entry)) a b ⌝ }
     ensures counts_ticks { λ r. ⌜ CountsTicks (now (runs .entry)) a b r ⌝ }
 {
-    busy_held(records::columns_of(runs), a, b)
+    busy_copied(records::columns_of(runs), a, b)
 }

@@ -1,1 +1,1 @@
-pub mod SomeBroken
+pub mod SomeOutOfOrder

@@ -9,7 +9,8 @@ use lib.Dec.{eqb}
 use lib.ListN.{length, getD, set, drop, replicate}
 use borrow.Author.Tests.{leb-true, leb-false, eq-eqb, ne-eqb}
 use Rattle.base.specs.Limits.{maxTasks}
-use Rattle.base.specs.Places.{places, firstPlaces}
+use Rattle.base.specs.Places.{places}
+use Rattle.base.specs.Arrays.{firstPlaces}
 use Rattle.base.proofs.PlaceLaws.{places-length, places-is, left-start, left-step}
 use Rattle.base.proofs.ArrayFilling.{Filled, filled-start, filled-set}
 use Rattle.base.proofs.TestLaws.{pick-cases}

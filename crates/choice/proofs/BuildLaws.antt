@@ -12,7 +12,8 @@ use Rattle.base.specs.Places.{placesFrom, places}
 use Rattle.base.proofs.PlaceLaws.{left-start, left-step, left-end}
 use Rattle.base.proofs.TestLaws.{pick-cases}
 use Rattle.schedule.specs.declared.Job.{Job}
-use Rattle.schedule.specs.Jobs.{Bounded, counts, windowTicks}
+use Rattle.schedule.specs.Jobs.{counts, windowTicks}
+use Rattle.schedule.specs.JobArrays.{Bounded}
 use Rattle.choice.specs.Choice.{fits, keepNone, countOne, kept, discarded, chosen}
 use Rattle.choice.specs.Programme.{mandatorySum, outermostTicks, allWorth, row, greatest, bestWorth, byRows}
 use Rattle.choice.specs.Decisions.{rowPlaces, hugeTicks, rowOf, backOf, jobsFrom, Reaches, Convex, JobAdded, Decided}

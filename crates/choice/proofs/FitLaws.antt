@@ -9,13 +9,14 @@ use Rattle.base.specs.Tests.{and}
 use Rattle.base.proofs.TestLaws.{cases, both-absurd}
 use Rattle.schedule.specs.declared.Job.{Job}
 use Rattle.schedule.specs.Jobs.{workOf, counts, windowTicks, workWith}
-use Rattle.schedule.specs.Ticks.{one}
-use Rattle.choice.specs.Choice.{total, worksFit, worksOf, totalWork, fits, keepNone, keptTicks, discardedWorth, keptWorth, kept, discarded}
+use Rattle.schedule.specs.Ticks.{oneIf}
+use Rattle.choice.specs.Choice.{total, worksFit, worksOf, fits, keepNone, keptTicks, discardedWorth, keptWorth, discarded}
+use Rattle.choice.specs.KeepLists.{totalWork}
 use Rattle.choice.specs.Programme.{mandatorySum, outermostTicks, allWorth}
 use Rattle.choice.proofs.WorkLaws.{NoMore, SameWindows, works-head, works-tail, works-cons, works-less, works-windows}
 
 -- the work under a Bool mark is the work under the mark as a number
-pub work-mark : (job : Job) (keep : Bool) → workOf job (one keep) ≡ workWith job keep
+pub work-mark : (job : Job) (keep : Bool) → workOf job (oneIf keep) ≡ workWith job keep
 work-mark job true = refl
 work-mark job false = refl
 
@@ -46,7 +47,7 @@ fits-length (job ∷ jobs) (keep ∷ keeps) e = ap suc (fits-length jobs keeps (
 
 -- all work is the mandatory ticks and the kept optional ones
 pub work-split : (jobs : List Job) (keeps : List Bool) → fits jobs keeps ≡ true → totalWork jobs keeps ≡ mandatorySum jobs + keptTicks jobs keeps
-unfolding worksFit worksOf total keptTicks mandatorySum
+unfolding worksFit worksOf total keptWorth mandatorySum
 work-split [] [] e = refl
 work-split [] (keep ∷ keeps) e = both-absurd false e refl
 work-split (job ∷ jobs) [] e = both-absurd false e refl
@@ -55,23 +56,17 @@ work-split (job ∷ jobs) (keep ∷ keeps) e = omega (arith, work-split jobs kee
 -- where a list fits, the first window has room for all mandatory ticks and the kept ones
 pub fits-room : (job : Job) (jobs : List Job) (keep : Bool) (keeps : List Bool) → fits (job ∷ jobs) (keep ∷ keeps) ≡ true
     → mandatorySum (job ∷ jobs) + keptTicks (job ∷ jobs) (keep ∷ keeps) ≤ windowTicks job
-unfolding keptTicks mandatorySum
+unfolding keptWorth mandatorySum
 fits-room job jobs keep keeps e =
     omega (arith, fits-head job jobs keep keeps e, work-split jobs keeps (fits-tail job jobs keep keeps e))
 
 -- and the other way round
 pub room-fits : (job : Job) (jobs : List Job) (keep : Bool) (keeps : List Bool) → fits jobs keeps ≡ true
     → mandatorySum (job ∷ jobs) + keptTicks (job ∷ jobs) (keep ∷ keeps) ≤ windowTicks job → fits (job ∷ jobs) (keep ∷ keeps) ≡ true
-unfolding keptTicks mandatorySum
+unfolding keptWorth mandatorySum
 room-fits job jobs keep keeps e h = fits-cons job jobs keep keeps (omega (arith, work-split jobs keeps e)) e
 
--- the list that keeps nothing keeps no ticks
-pub none-ticks : (jobs : List Job) → keptTicks jobs (keepNone jobs) ≡ 0
-unfolding keptTicks
-none-ticks [] = refl
-none-ticks (job ∷ jobs) = omega (arith, none-ticks jobs)
-
--- nor any worth
+-- the list that keeps nothing keeps no worth
 pub none-worth : (worth : Job → ℕ) (jobs : List Job) → keptWorth worth jobs (keepNone jobs) ≡ 0
 unfolding keptWorth
 none-worth worth [] = refl
@@ -79,17 +74,17 @@ none-worth worth (job ∷ jobs) = omega (arith, none-worth worth jobs)
 
 -- if any list fits, the one that keeps nothing does
 pub none-fits : (jobs : List Job) (keeps : List Bool) → fits jobs keeps ≡ true → fits jobs (keepNone jobs) ≡ true
-unfolding worksFit worksOf keptTicks
+unfolding worksFit worksOf keptWorth
 none-fits [] [] e = refl
 none-fits [] (keep ∷ keeps) e = both-absurd false e refl
 none-fits (job ∷ jobs) [] e = both-absurd false e refl
 none-fits (job ∷ jobs) (keep ∷ keeps) e =
     room-fits job jobs false (keepNone jobs) (none-fits jobs keeps (fits-tail job jobs keep keeps e))
-    (omega (arith, none-ticks jobs, fits-room job jobs keep keeps e))
+    (omega (arith, none-worth (λ job. job .optional) jobs, fits-room job jobs keep keeps e))
 
 -- no list that fits keeps more than the ticks of the outermost window
 pub ticks-outermost : (jobs : List Job) (keeps : List Bool) → fits jobs keeps ≡ true → keptTicks jobs keeps ≤ outermostTicks jobs
-unfolding worksFit worksOf keptTicks
+unfolding worksFit worksOf keptWorth
 ticks-outermost [] keeps e = omega arith
 ticks-outermost (job ∷ jobs) [] e = omega arith
 ticks-outermost (job ∷ jobs) (keep ∷ keeps) e = omega (arith, fits-room job jobs keep keeps e)
@@ -103,16 +98,9 @@ worth-split worth (job ∷ jobs) [] n = absurd (omega arith)
 worth-split worth (job ∷ jobs) (true ∷ keeps) n = omega (arith, worth-split worth jobs keeps (omega arith))
 worth-split worth (job ∷ jobs) (false ∷ keeps) n = omega (arith, worth-split worth jobs keeps (omega arith))
 
--- what the first job adds to the number kept
-pub kept-cons : (job : Job) (jobs : List Job) (keep : Bool) (keeps : List Bool)
-    → kept (job ∷ jobs) (keep ∷ keeps) ≡ one (and (counts job) keep) + kept jobs keeps
-unfolding keptWorth
-kept-cons job jobs true keeps = cases (counts job) (λ e. rw e) (λ e. rw e)
-kept-cons job jobs false keeps = cases (counts job) (λ e. rw e) (λ e. rw e)
-
 -- what the first job adds to the number discarded
 pub discarded-cons : (job : Job) (jobs : List Job) (keep : Bool) (keeps : List Bool)
-    → discarded (job ∷ jobs) (keep ∷ keeps) ≡ one (and (counts job) (not keep)) + discarded jobs keeps
+    → discarded (job ∷ jobs) (keep ∷ keeps) ≡ oneIf (and (counts job) (not keep)) + discarded jobs keeps
 unfolding discardedWorth
 discarded-cons job jobs true keeps = cases (counts job) (λ e. rw e) (λ e. rw e)
 discarded-cons job jobs false keeps = cases (counts job) (λ e. rw e) (λ e. rw e)

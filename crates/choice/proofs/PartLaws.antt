@@ -16,7 +16,7 @@ use Rattle.schedule.specs.Jobs.{windowTicks}
 use Rattle.choice.specs.Choice.{fits, keepNone, countOne}
 use Rattle.choice.specs.Programme.{mandatorySum, greatest, keeping, row}
 use Rattle.choice.specs.Decisions.{hugeTicks, rowOf, keepsOver, keepsAbove, Reaches, Convex, PutAbove, PartAdded, JobAdded}
-use Rattle.choice.proofs.FitLaws.{fits-room, none-ticks, none-worth}
+use Rattle.choice.proofs.FitLaws.{fits-room, none-worth}
 use Rattle.choice.proofs.ProgrammeLaws.{ifRoom-fits, ifRoom-over, greatest-is, greatest-above, greatest-most, keeping-enough, keeping-short, row-is, row-least}
 use Rattle.choice.proofs.ConvexLaws.{convex-rises, convex-less, convex-cut, convex-same, convex-put}
 
@@ -223,7 +223,7 @@ module _ (job : Job) (jobs : List Job) (rank most room top : ℕ) (numbers : ℕ
   -- no part takes no ticks
   first-zero : numbers 0 ≡ 0
   first-zero =
-      let least = rw (none-worth countOne (job ∷ jobs), none-ticks (job ∷ jobs)) at (row-least countOne hugeTicks (job ∷ jobs) (keepNone (job ∷ jobs)) none) in
+      let least = rw (none-worth countOne (job ∷ jobs), none-worth (λ other. other .optional) (job ∷ jobs)) at (row-least countOne hugeTicks (job ∷ jobs) (keepNone (job ∷ jobs)) none) in
       let zero-is : rowOf (job ∷ jobs) 0 ≡ 0 = omega arith in
       let made = row-is countOne hugeTicks job jobs 0 0 zero-is (omega arith) in
       sym (w .made 0 (omega arith)) ∙ made .1

@@ -11,7 +11,8 @@ use lib.Dec.{leb, ltb, eqb}
 use borrow.Author.Tests.{leb-true, leb-false, ltb-true, ltb-false, eqb-true, eqb-false, le-leb, lt-leb, lt-ltb, le-ltb}
 use Rattle.base.proofs.TestLaws.{pick-true, pick-false, both-absurd, pick-cases, picked}
 use Rattle.schedule.specs.declared.Job.{Job}
-use Rattle.choice.specs.Choice.{worksFit, worksOf, fits, keptTicks, discardMarks, keptWorth, ZeroKept}
+use Rattle.choice.specs.Choice.{worksFit, worksOf, fits, keptTicks, discardMarks, keptWorth}
+use Rattle.choice.specs.KeepLists.{ZeroKept}
 use Rattle.schedule.specs.Jobs.{windowTicks}
 use Rattle.choice.specs.Programme.{mandatorySum, allWorth, ifRoom, keeping, row, greatest, backtrack}
 use Rattle.choice.proofs.LexLaws.{LexAtMost}
@@ -153,7 +154,7 @@ module _ (worth : Job → ℕ) (huge : ℕ) where
   -- no list that fits keeps fewer ticks than the row says at its worth
   pub row-least : (jobs : List Job) (keeps : List Bool) → fits jobs keeps ≡ true
       → row worth huge jobs (keptWorth worth jobs keeps) ≤ keptTicks jobs keeps
-  unfolding worksFit worksOf row keptWorth keptTicks
+  unfolding worksFit worksOf row keptWorth
   row-least [] [] e = omega arith
   row-least [] (keep ∷ keeps) e = both-absurd false e refl
   row-least (job ∷ jobs) [] e = both-absurd false e refl
@@ -164,15 +165,6 @@ module _ (worth : Job → ℕ) (huge : ℕ) where
   row-least (job ∷ jobs) (false ∷ keeps) e =
       let inner = row-least jobs keeps (fits-tail job jobs false keeps e) in
       ifRoom-least huge _ _ _ _ (simp zero-add (omega arith)) (fits-room job jobs false keeps e)
-
-  -- no number of a row is above huge
-  pub row-most : (jobs : List Job) (v : ℕ) → row worth huge jobs v ≤ huge
-  unfolding row ifRoom
-  row-most [] zero = omega arith
-  row-most [] (suc v) = omega arith
-  row-most (job ∷ jobs) v =
-      pick-cases (λ z. z ≤ huge) (leb (mandatorySum (job ∷ jobs) + either job jobs v) (windowTicks job))
-      (λ t. omega (arith, row-most jobs v)) (λ t. omega arith)
 
   -- beyond the worth of all optional parts a row is huge
   pub row-beyond : (jobs : List Job) (v : ℕ) → allWorth worth jobs < v → row worth huge jobs v ≡ huge
@@ -195,7 +187,7 @@ module _ (worth : Job → ℕ) (huge : ℕ) where
 
   -- the marks read back from a number of a row keep what it says
   pub backtrack-keeps : (jobs : List Job) (v x : ℕ) → row worth huge jobs v ≡ x → x < huge → Keeps worth jobs v x (backtrack worth huge jobs v x)
-  unfolding row backtrack worksFit worksOf keptWorth keptTicks
+  unfolding row backtrack worksFit worksOf keptWorth
   backtrack-keeps [] zero x e l = record { fit = refl; value = refl; ticks = e }
   backtrack-keeps [] (suc v) x e l = absurd (omega arith)
   backtrack-keeps (job ∷ jobs) v x e l =
@@ -212,7 +204,7 @@ module _ (worth : Job → ℕ) (huge : ℕ) where
   -- of the lists that keep as much they have the least marks: they keep at the outermost job where two differ
   pub backtrack-first : (jobs : List Job) (v x : ℕ) (keeps : List Bool) → row worth huge jobs v ≡ x → x < huge → Keeps worth jobs v x keeps
       → LexAtMost (discardMarks (backtrack worth huge jobs v x)) (discardMarks keeps)
-  unfolding row backtrack worksFit worksOf keptWorth keptTicks LexAtMost
+  unfolding row backtrack worksFit worksOf keptWorth LexAtMost
   backtrack-first [] v x keeps e l f = tt
   backtrack-first (job ∷ jobs) v x [] e l f = both-absurd false (f .fit) refl
   backtrack-first (job ∷ jobs) v x (true ∷ keeps) e l f =

@@ -4,10 +4,10 @@ use mathlib.Core.Path.{_≡_, refl, ap₂, fun-ext}
 use mathlib.Core.List.{List, [], _∷_}
 use mathlib.Core.Bool.{Bool}
 use Rattle.schedule.specs.declared.Job.{Job}
-use Rattle.schedule.specs.Shifting.{laterJob, laterJobs}
+use Rattle.schedule.specs.LaterJobs.{laterJob, laterJobs}
 use Rattle.schedule.proofs.ShiftLaws.{window-shift}
-use Rattle.choice.specs.Choice.{worksFit, worksOf, fits, keepLists, keepNone, keptTicks, discardMarks, bestList, discardedWorth, keptWorth, key}
-use Rattle.choice.specs.Choice.{chosenBy, countOne, chosen}
+use Rattle.choice.specs.Choice.{worksFit, worksOf, fits, keepLists, keepNone, keptTicks, discardMarks, bestList, discardedWorth, keptWorth, choiceKey}
+use Rattle.choice.specs.Choice.{chosenOver, countOne, chosen}
 
 module _ (c : ℕ) where
   -- The works are the same,
@@ -43,7 +43,7 @@ module _ (c : ℕ) where
 
   -- A list keeps as many ticks.
   pub ticks-shift : (jobs : List Job) (keeps : List Bool) → keptTicks (laterJobs c jobs) keeps ≡ keptTicks jobs keeps
-  unfolding keptTicks
+  unfolding keptWorth
   ticks-shift [] keeps = refl
   ticks-shift (job ∷ jobs) [] = refl
   ticks-shift (job ∷ jobs) (keep ∷ keeps) = rw (ticks-shift jobs keeps)
@@ -71,15 +71,15 @@ module _ (c : ℕ) where
     kept-shift (job ∷ jobs) (keep ∷ keeps) = rw (same job, kept-shift jobs keeps)
 
     -- so the rules look at the same numbers,
-    key-shift : (jobs : List Job) (keeps : List Bool) → key worth (laterJobs c jobs) keeps ≡ key worth jobs keeps
-    unfolding key
+    key-shift : (jobs : List Job) (keeps : List Bool) → choiceKey worth (laterJobs c jobs) keeps ≡ choiceKey worth jobs keeps
+    unfolding choiceKey
     key-shift jobs keeps = ap₂ (λ (d t : ℕ). d ∷ t ∷ discardMarks keeps) (discarded-shift jobs keeps) (ticks-shift jobs keeps)
 
     -- and the same list is chosen,
-    pub chosen-shift-by : (jobs : List Job) → chosenBy worth (laterJobs c jobs) ≡ chosenBy worth jobs
-    unfolding chosenBy
+    pub chosen-shift-by : (jobs : List Job) → chosenOver worth (laterJobs c jobs) ≡ chosenOver worth jobs
+    unfolding chosenOver
     chosen-shift-by jobs =
-        best-shift (fits jobs) (fits (laterJobs c jobs)) (key worth jobs) (key worth (laterJobs c jobs)) (fits-shift jobs) (key-shift jobs) jobs
+        best-shift (fits jobs) (fits (laterJobs c jobs)) (choiceKey worth jobs) (choiceKey worth (laterJobs c jobs)) (fits-shift jobs) (key-shift jobs) jobs
 
   -- as the planner's is.
   pub chosen-shift : (jobs : List Job) → chosen (laterJobs c jobs) ≡ chosen jobs

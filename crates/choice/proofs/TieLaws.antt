@@ -6,7 +6,8 @@ use mathlib.Core.List.{List, [], _∷_, _++_}
 use mathlib.Core.Bool.{Bool, true, false}
 use native.Mathlib.Omega.{arith}
 use lib.ListN.{length}
-use Rattle.choice.specs.Choice.{discardMarks, KeepsFirst}
+use Rattle.choice.specs.Choice.{discardMarks}
+use Rattle.choice.specs.KeepLists.{KeepsFirst}
 use Rattle.choice.proofs.LexLaws.{LexAtMost, atMost-refl}
 
 -- different lists have different marks

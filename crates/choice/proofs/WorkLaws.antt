@@ -1,11 +1,10 @@
 -- Laws of works that fit: how a fitting list begins, that lesser works fit too, and that of the jobs only the windows matter.
-use Prim.Native.Nat.{ℕ, suc, _+_, _≤_}
-use mathlib.Core.Path.{_≡_, refl, ap}
+use Prim.Native.Nat.{ℕ, _+_, _≤_}
+use mathlib.Core.Path.{_≡_, refl}
 use mathlib.Core.List.{List, [], _∷_}
 use mathlib.Core.Bool.{true, false}
 use native.Mathlib.Omega.{arith}
 use lib.Dec.{leb}
-use lib.ListN.{length}
 use borrow.Author.Tests.{leb-true, le-leb}
 use Rattle.base.proofs.TestLaws.{both-absurd, and-true, and-left, and-right}
 use Rattle.schedule.specs.declared.Job.{Job}
@@ -28,14 +27,6 @@ pub works-cons : (job : Job) (jobs : List Job) (work : ℕ) (works : List ℕ) �
     → worksFit jobs works ≡ true → worksFit (job ∷ jobs) (work ∷ works) ≡ true
 unfolding worksFit
 works-cons job jobs work works h e = and-true (leb (work + total works) (windowTicks job)) (worksFit jobs works) (le-leb _ _ h) e
-
--- works that fit are as many as the jobs
-pub works-length : (jobs : List Job) (works : List ℕ) → worksFit jobs works ≡ true → length works ≡ length jobs
-unfolding worksFit
-works-length [] [] e = refl
-works-length [] (work ∷ works) e = both-absurd false e refl
-works-length (job ∷ jobs) [] e = both-absurd false e refl
-works-length (job ∷ jobs) (work ∷ works) e = ap suc (works-length jobs works (works-tail job jobs work works e))
 
 -- one list of works is nowhere above another
 abbrev pub NoMore : List ℕ → List ℕ → Type 0

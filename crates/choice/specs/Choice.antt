@@ -1,15 +1,13 @@
 -- Which optional parts a plan keeps. Jobs stand last first in the order of their table's kind, in a nested table outermost first, and so do the marks:
 -- true keeps the optional part of its job, false discards it. The jobs before one in nest order are those after it in the list.
-use Prim.Native.Nat.{ℕ, _+_, _≤_}
-use mathlib.Core.Path.{_≡_}
-use mathlib.Core.Logic.{_⊎_}
+use Prim.Native.Nat.{ℕ, _+_}
 use mathlib.Core.List.{List, [], _∷_, _++_, map}
 use mathlib.Core.Bool.{Bool, true, false, not}
 use lib.Dec.{leb, ltb, eqb}
 use Rattle.base.specs.Tests.{pick, and}
 use Rattle.schedule.specs.declared.Job.{Job}
 use Rattle.schedule.specs.Jobs.{counts, windowTicks, workWith}
-use Rattle.schedule.specs.Ticks.{one}
+use Rattle.schedule.specs.Ticks.{oneIf}
 
 -- the sum of some works
 unfoldable pub total : List ℕ → ℕ
@@ -31,10 +29,6 @@ worksOf [] (keep ∷ keeps) = 0 ∷ worksOf [] keeps
 worksOf (job ∷ jobs) [] = []
 worksOf (job ∷ jobs) (keep ∷ keeps) = workWith job keep ∷ worksOf jobs keeps
 
--- the work of all jobs together
-abbrev pub totalWork : List Job → List Bool → ℕ
-totalWork jobs keeps = total (worksOf jobs keeps)
-
 -- a keep list fits where its works do; one with fewer or more marks than jobs does not
 abbrev pub fits : List Job → List Bool → Bool
 fits jobs keeps = worksFit jobs (worksOf jobs keeps)
@@ -48,15 +42,24 @@ keepLists (job ∷ jobs) = map (λ keeps. true ∷ keeps) (keepLists jobs) ++ ma
 abbrev pub keepNone : List Job → List Bool
 keepNone jobs = map (λ job. false) jobs
 
+-- what the kept optional parts are worth, and what the discarded ones are, over a worth of each
+unfoldable pub keptWorth : (Job → ℕ) → List Job → List Bool → ℕ
+keptWorth worth [] keeps = 0
+keptWorth worth (job ∷ jobs) [] = 0
+keptWorth worth (job ∷ jobs) (keep ∷ keeps) = pick keep (worth job) 0 + keptWorth worth jobs keeps
+
+unfoldable pub discardedWorth : (Job → ℕ) → List Job → List Bool → ℕ
+discardedWorth worth [] keeps = 0
+discardedWorth worth (job ∷ jobs) [] = 0
+discardedWorth worth (job ∷ jobs) (keep ∷ keeps) = pick keep 0 (worth job) + discardedWorth worth jobs keeps
+
 -- 'the total of kept optional ticks'
-unfoldable pub keptTicks : List Job → List Bool → ℕ
-keptTicks [] keeps = 0
-keptTicks (job ∷ jobs) [] = 0
-keptTicks (job ∷ jobs) (keep ∷ keeps) = pick keep (job .optional) 0 + keptTicks jobs keeps
+abbrev pub keptTicks : List Job → List Bool → ℕ
+keptTicks = keptWorth (λ job. job .optional)
 
 -- the marks as numbers, less for a part that is kept: of two lists the less, in the order below, keeps at the last job where they differ
 abbrev pub discardMarks : List Bool → List ℕ
-discardMarks keeps = map (λ keep. one (not keep)) keeps
+discardMarks keeps = map (λ keep. oneIf (not keep)) keeps
 
 -- the lexicographic order of lists of numbers: where two first differ, the first has the lesser number
 unfoldable pub lexLess : List ℕ → List ℕ → Bool
@@ -81,49 +84,14 @@ module _ {A : Type 0} (fit : A → Bool) (key : A → List ℕ) where
 unfoldable pub bestList : (List Bool → Bool) → (List Bool → List ℕ) → List Job → List Bool
 bestList fit key jobs = best fit key (keepNone jobs) (keepLists jobs)
 
--- The choice, over a worth of each optional part.
-module _ (worth : Job → ℕ) where
-  -- what the discarded optional parts are worth
-  unfoldable pub discardedWorth : List Job → List Bool → ℕ
-  discardedWorth [] keeps = 0
-  discardedWorth (job ∷ jobs) [] = 0
-  discardedWorth (job ∷ jobs) (keep ∷ keeps) = pick keep 0 (worth job) + discardedWorth jobs keeps
+-- What the three rules look at, one after the other: 'one that discards fewest optional parts', 'then the least total of kept optional ticks', 'then, at
+-- the outermost task where two lists differ, the one that keeps'; over a worth of each part.
+unfoldable pub choiceKey : (Job → ℕ) → List Job → List Bool → List ℕ
+choiceKey worth jobs keeps = discardedWorth worth jobs keeps ∷ keptTicks jobs keeps ∷ discardMarks keeps
 
-  -- what the kept optional parts are worth
-  unfoldable pub keptWorth : List Job → List Bool → ℕ
-  keptWorth [] keeps = 0
-  keptWorth (job ∷ jobs) [] = 0
-  keptWorth (job ∷ jobs) (keep ∷ keeps) = pick keep (worth job) 0 + keptWorth jobs keeps
-
-  -- What the three rules look at, one after the other: 'one that discards fewest optional parts', 'then the least total of kept optional
-  -- ticks', 'then, at the outermost task where two lists differ, the one that keeps'.
-  unfoldable pub key : List Job → List Bool → List ℕ
-  key jobs keeps = discardedWorth jobs keeps ∷ keptTicks jobs keeps ∷ discardMarks keeps
-
-  -- the best of all lists that fit, by these rules
-  unfoldable pub chosenBy : List Job → List Bool
-  chosenBy jobs = bestList (fits jobs) (key jobs) jobs
-
--- What the rules ask of the list that is taken, rule by rule, as statements about every other list that fits. The choice meets them, and no other
--- list does: the theorems `chosen-meets` and `meets-chosen`.
-
--- two lists differ, and at the last job where they do, in a nested table the outermost, the first keeps: before it in the list both have the marks `same`
-pub record KeepsFirst (a b : List Bool) : Type 0 where
-  pub same : List Bool
-  pub restA : List Bool
-  pub restB : List Bool
-  pub keeps : a ≡ same ++ true ∷ restA
-  pub discards : b ≡ same ++ false ∷ restB
-
--- the list fits; no list that fits discards less; of those that discard as much none keeps fewer ticks; and it keeps at the outermost job where
--- it differs from another of those that keep as many
-pub record MeetsRules (worth : Job → ℕ) (jobs : List Job) (keeps : List Bool) : Type 0 where
-  pub fit : fits jobs keeps ≡ true
-  pub leastDiscarded : (other : List Bool) → fits jobs other ≡ true → discardedWorth worth jobs keeps ≤ discardedWorth worth jobs other
-  pub leastTicks : (other : List Bool) → fits jobs other ≡ true → discardedWorth worth jobs other ≡ discardedWorth worth jobs keeps
-      → keptTicks jobs keeps ≤ keptTicks jobs other
-  pub outermost : (other : List Bool) → fits jobs other ≡ true → discardedWorth worth jobs other ≡ discardedWorth worth jobs keeps
-      → keptTicks jobs other ≡ keptTicks jobs keeps → (other ≡ keeps) ⊎ KeepsFirst keeps other
+-- the best of all lists that fit, by these rules
+unfoldable pub chosenOver : (Job → ℕ) → List Job → List Bool
+chosenOver worth jobs = bestList (fits jobs) (choiceKey worth jobs) jobs
 
 -- 'An optional part of 0 ticks .. enters neither count': it is worth nothing
 abbrev pub counted : (Job → ℕ) → Job → ℕ
@@ -141,17 +109,6 @@ kept = keptWorth countOne
 abbrev pub discarded : List Job → List Bool → ℕ
 discarded = discardedWorth countOne
 
--- the planner's keep list
+-- the planner's keep list of nested jobs
 abbrev pub chosen : List Job → List Bool
-chosen = chosenBy countOne
-
--- what a choice comes to for some jobs: the keep list that is taken, and its counts kept and discarded
-abbrev pub ChosenFor : List Bool → List Job → List Bool → ℕ → ℕ → Type 0
-ChosenFor taken jobs keeps k d = (keeps ≡ taken) × (k ≡ kept jobs taken) × (d ≡ discarded jobs taken)
-
--- 'An optional part of 0 ticks is marked 1': the list has one mark a job, and true for each such part
-abbrev pub ZeroKept : List Job → List Bool → Type 0
-ZeroKept [] [] = Unit {0}
-ZeroKept [] (keep ∷ keeps) = ⊥
-ZeroKept (job ∷ jobs) [] = ⊥
-ZeroKept (job ∷ jobs) (keep ∷ keeps) = (job .optional ≡ 0 → keep ≡ true) × ZeroKept jobs keeps
+chosen = chosenOver countOne

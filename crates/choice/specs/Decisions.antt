@@ -8,17 +8,18 @@ use lib.Dec.{leb, ltb}
 use lib.ListN.{length, getD}
 use Rattle.base.specs.Limits.{maxTasks}
 use Rattle.base.specs.Tests.{pick}
-use Rattle.base.specs.Places.{placesFrom, firstPlaces}
+use Rattle.base.specs.Places.{placesFrom}
 use Rattle.schedule.specs.declared.Job.{Job}
 use Rattle.choice.specs.Choice.{countOne}
-use Rattle.schedule.specs.Jobs.{noJob, counts}
+use Rattle.schedule.specs.Jobs.{counts}
+use Rattle.schedule.specs.JobArrays.{noJob, jobsIn}
 use Rattle.choice.specs.Programme.{allWorth, keeping, row, backtrack}
 
 -- the places of a row: one for each number of optional parts that a list can keep, 0 among them
 abbrev pub rowPlaces : ℕ
 rowPlaces = maxTasks + 1
 
--- what stands in a row where no list fits: more than any window has ticks
+-- what stands in a row where no list fits: more than any deadline, and so more than any window has ticks
 abbrev pub hugeTicks : ℕ
 hugeTicks = 1_073_741_824
 
@@ -82,8 +83,8 @@ pub record Decided (at : ℕ → Job) (count i : ℕ) (ranks : List ℕ) : Type 
 abbrev pub RowsMade : List Job → ℕ → List ℕ → ℕ → ℕ → Type 0
 RowsMade jobs count ranks all most =
     Decided (λ k. getD jobs k noJob) count 0 ranks
-    × Reaches (rowOf (firstPlaces noJob jobs count)) most
-    × (all ≡ allWorth countOne (firstPlaces noJob jobs count))
+    × Reaches (rowOf (jobsIn jobs count)) most
+    × (all ≡ allWorth countOne (jobsIn jobs count))
     × (most ≤ count)
     × (all ≤ count)
     × (length ranks ≡ maxTasks)

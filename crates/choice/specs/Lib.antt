@@ -1,4 +1,5 @@
 pub mod Choice
+pub mod ChoiceSamples
+pub mod KeepLists
 pub mod Programme
 pub mod Decisions
-pub mod ChoiceSamples

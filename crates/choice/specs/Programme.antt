@@ -1,5 +1,5 @@
--- For the proofs of planner's, choosing's and sequencing's code alone: the choice of optional parts by dynamic programming: one row of numbers a job, from the innermost job outwards, and
--- the marks read back from the outermost inwards. Jobs stand outermost first. What the code holds of it is said in Decisions.
+-- For proofs alone: the choice of optional parts by dynamic programming: one row of numbers a job, from the innermost job outwards, and the marks read back
+-- from the outermost inwards. Jobs stand outermost first. What the code holds of it is said in Decisions.
 use Prim.Native.Nat.{ℕ, zero, suc, _+_, _-_, min}
 use mathlib.Core.List.{List, [], _∷_}
 use mathlib.Core.Bool.{Bool, true, false}
@@ -23,16 +23,16 @@ unfoldable pub allWorth : (Job → ℕ) → List Job → ℕ
 allWorth worth [] = 0
 allWorth worth (job ∷ jobs) = worth job + allWorth worth jobs
 
+-- the greatest number up to n at which a row is below a limit, and 0 where there is none
+unfoldable pub greatest : ℕ → (ℕ → ℕ) → ℕ → ℕ
+greatest limit r zero = 0
+greatest limit r (suc n) = pick (ltb (r (suc n)) limit) (suc n) (greatest limit r n)
+
 -- `huge` is a number above the ticks of the outermost window: it stands in a row where no list fits
 module _ (huge : ℕ) where
   -- x kept ticks where the window has room for them beside the mandatory ticks, and else huge
   unfoldable pub ifRoom : ℕ → ℕ → ℕ → ℕ
   ifRoom mandatory window x = pick (leb (mandatory + x) window) x huge
-
-  -- the greatest worth up to n at which a row is below huge, and 0 where there is none
-  unfoldable pub greatest : (ℕ → ℕ) → ℕ → ℕ
-  greatest r zero = 0
-  greatest r (suc n) = pick (ltb (r (suc n)) huge) (suc n) (greatest r n)
 
 -- The rows and what is read back from them, over a worth of each optional part.
 module _ (worth : Job → ℕ) (huge : ℕ) where

@@ -6,16 +6,17 @@ ghost use mathlib.Core.Bool.{true, false};
 ghost use Prim.Native.Nat.{ℕ, _+_, _-_, _≤_, _<_};
 ghost use lib.ListN.{length, getD, replicate};
 ghost use Rattle.base.specs.Limits.{maxTasks, maxTicks};
-ghost use Rattle.base.specs.Places.{firstPlaces};
-ghost use Rattle.schedule.specs.Jobs.{noJob, Bounded, windowTicks};
-ghost use Rattle.choice.specs.Choice.{fits, keepNone, countOne, chosen, ChosenFor};
+ghost use Rattle.schedule.specs.Jobs.{windowTicks};
+ghost use Rattle.choice.specs.KeepLists.{keepsIn, ChosenFor};
+ghost use Rattle.choice.specs.Choice.{fits, keepNone, countOne, chosen};
+ghost use Rattle.schedule.specs.JobArrays.{noJob, jobsIn, AllBounded};
 ghost use Rattle.choice.specs.Programme.{greatest};
 ghost use Rattle.choice.specs.Decisions.{rowPlaces, hugeTicks, rowOf, backOf, keepsAbove, Decided, PartAdded, JobAdded, RowsMade};
 use base::MAX_TASKS;
 use schedule::Job;
 
 // The places of a row: one for each number of optional parts that a list can keep, 0 among them.
-pub const PLACES: usize = MAX_TASKS + 1;
+pub const ROW_PLACES: usize = MAX_TASKS + 1;
 
 // What stands in a row of similar jobs where no list fits: more than any deadline, and so more than any window has ticks. The rows here end where it
 // would stand.
@@ -105,8 +106,8 @@ pub fn most_within(rows: &[u32], from: usize, most: usize, room: u32) -> usize
 // once, and what its window has beside them is found once: the row is cut at it.
 fn rows_of(jobs: [Job; MAX_TASKS], count: usize, row: &mut [u32], ranks: &mut [usize]) -> Parts
     requires { ⌜ count ≤ maxTasks ⌝ }
-    requires { ⌜ ((k : ℕ) → k < count → Bounded (getD jobs k noJob)) ⌝ }
-    requires { ⌜ fits (firstPlaces noJob jobs count) (keepNone (firstPlaces noJob jobs count)) ≡ true ⌝ }
+    requires { ⌜ AllBounded jobs count ⌝ }
+    requires { ⌜ fits (jobsIn jobs count) (keepNone (jobsIn jobs count)) ≡ true ⌝ }
     requires { ⌜ now row ≡ replicate rowPlaces 0 ⌝ }
     requires { ⌜ length (now ranks) ≡ maxTasks ⌝ }
     ensures { λ r. ⌜ RowsMade jobs count (now (ranks .exit)) (r .all) (r .most) ⌝ }
@@ -150,8 +151,8 @@ fn read_back(
     requires { ⌜ most ≤ count ⌝ }
     requires { ⌜ length (now ranks) ≡ maxTasks ⌝ }
     requires { ⌜ Decided (λ k. getD jobs k noJob) count 0 (now ranks) ⌝ }
-    requires { ⌜ rowOf (firstPlaces noJob jobs count) most < hugeTicks ⌝ }
-    ensures { λ r. ⌜ firstPlaces false r count ≡ backOf (firstPlaces noJob jobs count) most ⌝ }
+    requires { ⌜ rowOf (jobsIn jobs count) most < hugeTicks ⌝ }
+    ensures { λ r. ⌜ keepsIn r count ≡ backOf (jobsIn jobs count) most ⌝ }
 {
     let mut keeps = [false; MAX_TASKS];
     let mut left = most;
@@ -171,11 +172,11 @@ fn read_back(
 // The keep list of the jobs that stand outermost first at the first `count` places.
 pub fn choose(jobs: [Job; MAX_TASKS], count: usize) -> Choice
     requires { ⌜ count ≤ maxTasks ⌝ }
-    requires { ⌜ ((k : ℕ) → k < count → Bounded (getD jobs k noJob)) ⌝ }
-    requires { ⌜ fits (firstPlaces noJob jobs count) (keepNone (firstPlaces noJob jobs count)) ≡ true ⌝ }
-    ensures { λ r. ⌜ ChosenFor (chosen (firstPlaces noJob jobs count)) (firstPlaces noJob jobs count) (firstPlaces false (r .keeps) count) (r .kept) (r .discarded) ⌝ }
+    requires { ⌜ AllBounded jobs count ⌝ }
+    requires { ⌜ fits (jobsIn jobs count) (keepNone (jobsIn jobs count)) ≡ true ⌝ }
+    ensures { λ r. ⌜ ChosenFor chosen (jobsIn jobs count) (keepsIn (r .keeps) count) (r .kept) (r .discarded) ⌝ }
 {
-    let mut row = [0u32; PLACES];
+    let mut row = [0u32; ROW_PLACES];
     let mut ranks = [0usize; MAX_TASKS];
     let parts = rows_of(jobs, count, &mut row, &mut ranks);
     let most = parts.most;

@@ -7,11 +7,11 @@ use lib.ListN.{length, getD, take, drop, length-take, length-drop}
 use lib.Seq.{getD-take, getD-drop}
 use Rattle.base.proofs.PlaceLaws.{places-is}
 use Rattle.schedule.specs.declared.Stretch.{Stretch}
-use Rattle.schedule.specs.Runs.{noRun, runAt, runsOf}
+use Rattle.schedule.specs.Runs.{noRun, runAtIndex, runsOf}
 use Rattle.schedule.specs.Queries.{touching, stretchOf}
 use Rattle.schedule.proofs.ColumnLaws.{columns-length, runs-at, end-at}
 use Rattle.schedule.proofs.CheckLaws.{all-indices}
-use Rattle.schedule.proofs.QueryLaws.{stretch-part, stretch-within}
+use Rattle.schedule.proofs.QueryLaws.{stretch-touching, stretch-within}
 use Rattle.printed_plan.proofs.NowLaws.{touching-cut}
 
 -- so many elements of a list from a place on
@@ -28,12 +28,12 @@ part-length list first count h = omega (arith, length-take count (drop first lis
 -- A part of the columns is that part of the run list.
 pub columns-part : (starts ends tasks : List ℕ) (first count : ℕ) → first + count ≤ length starts
     → runsOf (elementsFrom first count starts) (elementsFrom first count ends) (elementsFrom first count tasks) ≡ elementsFrom first count (runsOf starts ends tasks)
-unfolding runsOf runAt
+unfolding runsOf runAtIndex
 columns-part starts ends tasks first count h =
     let runs = runsOf starts ends tasks in
     let long = part-length starts first count h in
     let same = part-length runs first count (omega (arith, columns-length starts ends tasks)) in
-    sym (places-is (runAt (elementsFrom first count starts) (elementsFrom first count ends) (elementsFrom first count tasks)) (length (elementsFrom first count starts))
+    sym (places-is (runAtIndex (elementsFrom first count starts) (elementsFrom first count ends) (elementsFrom first count tasks)) (length (elementsFrom first count starts))
     noRun (elementsFrom first count runs) (same ∙ sym long) (λ k l.
     let m : k < count = omega arith in
     part-at runs first count k noRun m
@@ -75,4 +75,4 @@ module _ (starts ends tasks : List ℕ) (most tick span : ℕ) (low : (k : ℕ) 
       omega (arith, end-at starts ends tasks k m, low k m)) in
       rw count
       (columns-part starts ends tasks (s .first) (s .runs) interval-within
-      ∙ (rw is (stretch-part runs tick (min (tick + span) most)) ∙ touching-cut most runs tick (tick + span) ends-low))
+      ∙ (rw is (stretch-touching runs tick (min (tick + span) most)) ∙ touching-cut most runs tick (tick + span) ends-low))

@@ -13,17 +13,17 @@ use Rattle.table.specs.declared.Table.{Table}
 use Rattle.table.specs.declared.Written.{Written}
 use Rattle.table.specs.Answers.{isAccepted, wrote}
 use Rattle.table.specs.Layout.{fileLength, badCount, badPeriod}
-use Rattle.table.specs.Kinds.{windowAnswer}
+use Rattle.table.specs.Kinds.{tableWindowsAnswer}
 use Rattle.table.specs.Writing.{firstTooWide, rowsReply, writeReply, writtenOver}
 use Rattle.table_text.specs.declared.Parsed.{Parsed}
 use Rattle.table.specs.Reading.{tableIn, readAnswer}
 use Rattle.table.specs.declared.Answer.the-variants.{Accepted}
 use Rattle.table.proofs.RoundTrip.{read-writes, read-over}
 use Rattle.table_text.proofs.TextRoundTrip.{file-text}
-use Rattle.table_text.specs.TableText.{parsed, rightTable, tableText}
+use Rattle.table_text.specs.TableText.{parseReply, rightTable, tableText}
 use Rattle.table_text.specs.Conversions.{fileReply, fileOver}
 
-module _ (text out : List ℕ) (found : Parsed) (found-is : found ≡ parsed text) (written : Written) where
+module _ (text out : List ℕ) (found : Parsed) (found-is : found ≡ parseReply text) (written : Written) where
   -- a text with a wrong line
   pub file-wrong : (found .line ≡ 0 → ⊥) → written ≡ wrote 0
       → (record { line = found .line; due = found .due; written = written } ≡ fileReply text (length out)) × (out ≡ fileOver text out)
@@ -36,7 +36,7 @@ module _ (text out : List ℕ) (found : Parsed) (found-is : found ≡ parsed tex
   unfolding fileReply fileOver
   file-made new z w c = (rw (← found-is, z, w), c ∙ rw (← found-is, z))
 
--- a reply of writing says at most as many bytes as there was room for
+-- a reply of writing reports at most as many bytes as there was room for
 reply-fits : (t : Table) (room : ℕ) → writeReply t room .bytes ≤ room
 unfolding writeReply rowsReply
 reply-fits t room =
@@ -46,7 +46,7 @@ reply-fits t room =
     (λ b.
     pick-cases (λ (r : Written). r .bytes ≤ room) (ltb (firstTooWide t) (t .count)) (λ d. omega arith)
     (λ d.
-    pick-cases (λ (r : Written). r .bytes ≤ room) (isAccepted (windowAnswer t))
+    pick-cases (λ (r : Written). r .bytes ≤ room) (isAccepted (tableWindowsAnswer t))
     (λ e.
     pick-cases (λ (r : Written). r .bytes ≤ room) (ltb room (fileLength (t .count))) (λ f. omega arith)
     (λ f. omega (arith, ltb-false room (fileLength (t .count)) f)))
@@ -56,7 +56,7 @@ reply-fits t room =
 pub file-fits : (text : List ℕ) (room : ℕ) → fileReply text room .written .bytes ≤ room
 unfolding fileReply
 file-fits text room =
-    pick-cases (λ (r : Written). r .bytes ≤ room) (eqb (parsed text .line) 0) (λ a. reply-fits (parsed text .table) room) (λ a. omega arith)
+    pick-cases (λ (r : Written). r .bytes ≤ room) (eqb (parseReply text .line) 0) (λ a. reply-fits (parseReply text .table) room) (λ a. omega arith)
 
 -- A file, shown as text and made again from it, is the file that it was.
 pub file-again : (s out : List ℕ) → Bytes s → readAnswer s ≡ Accepted → length s ≤ length out
@@ -64,5 +64,5 @@ pub file-again : (s out : List ℕ) → Bytes s → readAnswer s ≡ Accepted �
     × (fileOver (tableText (tableIn s)) out ≡ writtenFront s out)
 unfolding fileReply fileOver
 file-again s out bytes e room =
-    let table : parsed (tableText (tableIn s)) ≡ rightTable (tableIn s) = file-text s e in
+    let table : parseReply (tableText (tableIn s)) ≡ rightTable (tableIn s) = file-text s e in
     (rw (table, read-writes s (length out) e room), rw (table, read-over s out bytes e room))

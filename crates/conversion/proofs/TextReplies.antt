@@ -17,7 +17,7 @@ use Rattle.lines.specs.Putting.{Put}
 use Rattle.lines.proofs.PutLaws.{put-front}
 use Rattle.table.specs.declared.Written.{Written}
 use Rattle.table.specs.declared.Answer.the-variants.{Accepted}
-use Rattle.table.specs.Layout.{maxFile, heldBytes, Holds}
+use Rattle.table.specs.Layout.{maxFile, fileBytesRead, FirstOfFile}
 use Rattle.table.proofs.AnswerLaws.{refused-number, accepted-is}
 use Rattle.table.proofs.FileLaws.{legal-count}
 use Rattle.table.proofs.RoundTrip.{read-legal}
@@ -27,7 +27,7 @@ use Rattle.table.specs.Reading.{tableIn, readAnswer}
 use Rattle.table_text.specs.TableText.{tableText, maxTableText}
 use Rattle.table_text.proofs.TextLength.{table-text-length}
 use Rattle.table_text.proofs.TextRoundTrip.{file-text-again}
-use Rattle.table_text.specs.Conversions.{textReply, textOver, ShowsText, ShownAgain}
+use Rattle.table_text.specs.Conversions.{textReply, textOver, ShowsText, ShownRestores}
 
 module _ (file : List ℕ) where
   -- what reading refuses
@@ -71,18 +71,18 @@ text-replied file room =
     (cases (ltb room maxTableText) (λ l. rw l (λ z. absurd (omega arith))) (λ l. rw l (λ z. (accepted-is (readAnswer file) a, refl)))))
     (λ a. rw a (λ z. absurd (eqb-false (numberOf (readAnswer file)) 0 (refused-number (readAnswer file) a) z)))
 
--- What is shown says the table again.
-pub shown-again : (file out : List ℕ) (reply : Written) (new : List ℕ) → Bytes file → reply ≡ textReply file (length out) → new ≡ textOver file out
-    → ShownAgain file reply new
+-- What is shown restores the file.
+pub shown-restores : (file out : List ℕ) (reply : Written) (new : List ℕ) → Bytes file → reply ≡ textReply file (length out) → new ≡ textOver file out
+    → ShownRestores file reply new
 unfolding textOver contentAfter
-shown-again file out reply new bytes r c z =
+shown-restores file out reply new bytes r c z =
     let known = text-replied file (length out) (rw r at z) in
     let text = tableText (tableIn file) in
     let again = file-text-again file bytes (known .0) in
     let same : take (reply .bytes) new ≡ text = rw (c, r, known .1) (front-taken text (drop (length text) out)) in
     rw same (record { table-is = again .0; file-is = again .1 })
 
--- a reply never says more bytes than there was room for
+-- a reply never reports more bytes than there was room for
 pub text-fits : (file : List ℕ) (room : ℕ) (reply : Written) → reply ≡ textReply file room → reply .bytes ≤ room
 unfolding textReply
 text-fits file room reply e =
@@ -102,7 +102,7 @@ text-fits file room reply e =
 
 -- What is shown of an input follows from its first bytes, as many as a program holds.
 text-prefix : (file out : List ℕ)
-    → (textReply (take heldBytes file) (length out) ≡ textReply file (length out)) × (textOver (take heldBytes file) out ≡ textOver file out)
+    → (textReply (take fileBytesRead file) (length out) ≡ textReply file (length out)) × (textOver (take fileBytesRead file) out ≡ textOver file out)
 text-prefix file out =
     elim (decLt maxFile (length file)) [
       | yes h ↦
@@ -110,33 +110,33 @@ text-prefix file out =
           let bad = long-refused file h in
           let short = ap isAccepted same ∙ bad in
           let whole-refused = text-refused file (length out) bad in
-          let part-refused = text-refused (take heldBytes file) (length out) short in (
+          let part-refused = text-refused (take fileBytesRead file) (length out) short in (
             sym part-refused ∙ (ap₂ declined (ap numberOf same) (ap placeOf same) ∙ whole-refused),
-            sym (text-kept (take heldBytes file) out _ part-refused (refused-number (readAnswer (take heldBytes file)) short))
+            sym (text-kept (take fileBytesRead file) out _ part-refused (refused-number (readAnswer (take fileBytesRead file)) short))
                 ∙ text-kept file out _ whole-refused (refused-number (readAnswer file) bad),
           )
       | no h ↦
-          let all = take-all heldBytes file (omega arith) in
+          let all = take-all fileBytesRead file (omega arith) in
           (ap (λ (s : List ℕ). textReply s (length out)) all, ap (λ (s : List ℕ). textOver s out) all)
     ]
 
 -- an input that is shown is held whole
-shown-whole : (file : List ℕ) (room : ℕ) → textReply file room .number ≡ 0 → take heldBytes file ≡ file
+shown-whole : (file : List ℕ) (room : ℕ) → textReply file room .number ≡ 0 → take fileBytesRead file ≡ file
 shown-whole file room z =
     elim (decLt maxFile (length file)) [
       | yes h ↦ both-absurd (isAccepted (readAnswer file)) (ap isAccepted (text-replied file room z .0)) (long-refused file h)
-      | no h ↦ take-all heldBytes file (omega arith)
+      | no h ↦ take-all fileBytesRead file (omega arith)
     ]
 
 -- so of an input that is held
 pub held-shown : (held : List ℕ) (n : ℕ) (input out : List ℕ) (reply : Written) (new : List ℕ) → reply ≡ textReply (take n held) (length out)
-    → new ≡ textOver (take n held) out → ShownAgain (take n held) reply new → Holds held n input → ShowsText input out reply new
-held-shown held n input out reply new r c again h =
+    → new ≡ textOver (take n held) out → ShownRestores (take n held) reply new → FirstOfFile held n input → ShowsText input out reply new
+held-shown held n input out reply new r c restores h =
     let replied = r ∙ (ap (λ (s : List ℕ). textReply s (length out)) h ∙ text-prefix input out .0) in
     record {
       reply-is = replied;
       content = c ∙ (ap (λ (s : List ℕ). textOver s out) h ∙ text-prefix input out .1);
-      again = λ z.
+      restores = λ z.
           let whole : take n held ≡ input = h ∙ shown-whole input (length out) (rw replied at z) in
-          rw whole at (again z);
+          rw whole at (restores z);
     }

@@ -7,22 +7,22 @@ ghost use Rattle.base.specs.Limits.{maxTasks};
 ghost use Rattle.base.specs.Places.{places};
 ghost use Rattle.lines.specs.Putting.{Put};
 ghost use Rattle.lines.specs.Text.{decimal, line};
-ghost use Rattle.table.specs.Layout.{heldBytes, Holds};
+ghost use Rattle.table.specs.Layout.{fileBytesRead, FirstOfFile};
 ghost use Rattle.table.specs.Tables.{taskAt};
 ghost use Rattle.table_text.specs.TableText.{headLine, taskLine, taskLines, tableText};
-ghost use Rattle.table_text.specs.Conversions.{textReply, textOver, ShowsText, ShownAgain, fileReply, fileOver};
+ghost use Rattle.table_text.specs.Conversions.{textReply, textOver, ShowsText, ShownRestores, fileReply, fileOver};
 use base::MAX_TASKS;
 use lines::MAX_FIELD;
 use lines::NEWLINE;
 use table::Answer;
-use table::HELD_BYTES;
+use table::FILE_BYTES_READ;
 use table::MAX_FILE;
 use table::Table;
 use table::Task;
 use table::Written;
 use table_text::FromText;
 
-// No text of a table is longer: a line for the table and one for each task, of at most 4 numbers, each with a byte behind it. Definitions say
+// No text of a table of at most 64 tasks is longer: a line for the table and one for each task, of at most 4 numbers, each with a byte behind it. Definitions say
 // maxTableText.
 pub const MAX_TABLE_TEXT: usize = (1 + MAX_TASKS) * (4 * MAX_FIELD);
 
@@ -90,7 +90,7 @@ fn put_table(out: &mut [u8], table: Table) -> usize
 pub fn to_text(file: &[u8], out: &mut [u8]) -> Written
     ensures reply { λ r. ⌜ r ≡ textReply (now (file .entry)) (length (now (out .entry))) ⌝ }
     ensures content { λ r. ⌜ now (out .exit) ≡ textOver (now (file .entry)) (now (out .entry)) ⌝ }
-    ensures again { λ r. ⌜ ShownAgain (now (file .entry)) r (now (out .exit)) ⌝ }
+    ensures restores { λ r. ⌜ ShownRestores (now (file .entry)) r (now (out .exit)) ⌝ }
 {
     let read = reading::read(file);
     let answer = read.answer;
@@ -105,19 +105,20 @@ pub fn to_text(file: &[u8], out: &mut [u8]) -> Written
     Written::wrote(bytes)
 }
 
-// The same of an input. The first `filled` places of `held` are its first bytes: the whole input, or as many as there are places. They settle what is
-// shown.
-pub fn to_text_held(
-    held: [u8; HELD_BYTES],
+// The same of an input. The first `filled` places of `first` are its first bytes: the whole input, or as many as there are places. They settle what is
+// shown. Clause `size` ties the array to the number of which `shown` speaks.
+pub fn to_text_from_first(
+    first: [u8; FILE_BYTES_READ],
     filled: usize,
     out: &mut [u8; MAX_TABLE_TEXT],
 ) -> Written
-    ensures shown { λ r. ⌜ ((input : List ℕ) → Holds held filled input → ShowsText input (now (out .entry)) r (now (out .exit))) ⌝ }
-    ensures size { λ r. ⌜ length held ≡ heldBytes ⌝ }
+    ensures shown { λ r. ⌜ ((input : List ℕ) → FirstOfFile first filled input
+        → ShowsText input (now (out .entry)) r (now (out .exit))) ⌝ }
+    ensures size { λ r. ⌜ length first ≡ fileBytesRead ⌝ }
     ensures within { λ r. ⌜ r .bytes ≤ length (now (out .exit)) ⌝ }
 {
-    let end = table::held_of(filled, HELD_BYTES);
-    to_text(&held[..end], out)
+    let end = table::bytes_read(filled, FILE_BYTES_READ);
+    to_text(&first[..end], out)
 }
 
 // Makes the file of a text's table at the front of a lent list that has room for every file: the first wrong line, or what writing replies.

@@ -2,7 +2,7 @@
 use Rattle.schedule.specs.declared.RunsAnswer.{RunsAnswer}
 use Rattle.schedule.specs.declared.Found.{Found}
 use Rattle.schedule.specs.RunCheck.{runsNumber, runsPlace}
-use Rattle.schedule.specs.Queries.{foundNumber, foundPlace, isFound, foundRun}
+use Rattle.schedule.specs.Queries.{foundNumber, foundPlace, isFound, runFound}
 use Rattle.exports.specs.declared.Checked.{Checked}
 use Rattle.exports.specs.declared.FoundRun.{FoundRun}
 
@@ -12,4 +12,4 @@ checkedReply answer = record { number = runsNumber answer; place = runsPlace ans
 
 -- of a query for one run: number, place, whether there is a run, and the run
 unfoldable pub foundReply : Found → FoundRun
-foundReply answer = record { number = foundNumber answer; place = foundPlace answer; found = isFound answer; run = foundRun answer }
+foundReply answer = record { number = foundNumber answer; place = foundPlace answer; found = isFound answer; run = runFound answer }

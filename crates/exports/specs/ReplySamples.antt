@@ -5,11 +5,11 @@ use mathlib.Core.List.{List, [], _∷_, _++_}
 use lib.ListN.{length, replicate}
 use Rattle.table.specs.declared.Task.{Task}
 use Rattle.table.specs.declared.Table.{Table}
-use Rattle.schedule.specs.declared.Run.{Run}
 use Rattle.schedule.specs.declared.RunsAnswer.{RunsAnswer}
 use Rattle.schedule.specs.declared.RunsAnswer.the-variants as checked
 use Rattle.schedule.specs.declared.Found.{Found}
 use Rattle.schedule.specs.declared.Found.the-variants as found
+use Rattle.schedule.specs.Runs.{runOf}
 use Rattle.exports.specs.declared.TableRead.{TableRead}
 use Rattle.exports.specs.declared.Checked.{Checked}
 use Rattle.exports.specs.declared.FoundRun.{FoundRun}
@@ -58,15 +58,11 @@ pub record FoundSample : Type 0 where
   pub answer : Found
   pub reply : FoundRun
 
--- a run by its start, its end and its task
-abbrev pub run : ℕ → ℕ → ℕ → Run
-run start end task = record { start = start; end = end; task = task }
-
 -- each case of a query's answer
 unfoldable pub foundSamples : List FoundSample
 foundSamples =
-    record { answer = found.One (run 8 10 1); reply = record { number = 0; place = 0; found = true; run = run 8 10 1 } }
-    ∷ record { answer = found.None; reply = record { number = 0; place = 0; found = false; run = run 0 0 0 } }
-    ∷ record { answer = found.TooMany; reply = record { number = 13; place = 0; found = false; run = run 0 0 0 } }
-    ∷ record { answer = found.OutOfOrder 2; reply = record { number = 15; place = 2; found = false; run = run 0 0 0 } }
+    record { answer = found.One (runOf 8 10 1); reply = record { number = 0; place = 0; found = true; run = runOf 8 10 1 } }
+    ∷ record { answer = found.None; reply = record { number = 0; place = 0; found = false; run = runOf 0 0 0 } }
+    ∷ record { answer = found.TooMany; reply = record { number = 13; place = 0; found = false; run = runOf 0 0 0 } }
+    ∷ record { answer = found.OutOfOrder 2; reply = record { number = 15; place = 2; found = false; run = runOf 0 0 0 } }
     ∷ []

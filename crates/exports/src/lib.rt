@@ -5,13 +5,13 @@ ghost use lib.ListN.{length};
 ghost use Rattle.table.specs.Reading.{tableIn};
 ghost use Rattle.table.specs.Writing.{writeReply, writtenOver};
 ghost use Rattle.table.specs.Moving.{moveReply, movedOver};
-ghost use Rattle.schedule.specs.Judging.{judged};
+ghost use Rattle.schedule.specs.Judging.{judgeReply};
 ghost use Rattle.schedule.specs.BusyCount.{busyReply};
-ghost use Rattle.schedule.specs.RunCheck.{runsAnswer};
+ghost use Rattle.schedule.specs.RunCheck.{checkAnswer};
 ghost use Rattle.schedule.specs.Queries.{runAtTick, runFromTick, stretchOf};
-ghost use Rattle.records.specs.RecordColumns.{HeldColumns, runsHeld};
-ghost use Rattle.plans.specs.Planning.{lent, planReply, listsAfter};
-ghost use Rattle.exports.specs.FileRead.{tableRead};
+ghost use Rattle.records.specs.RecordColumns.{LegalColumns, copiedRuns};
+ghost use Rattle.plans.specs.Planning.{lentBefore, lentAfter, planReply, listsAfter};
+ghost use Rattle.exports.specs.FileRead.{readInC};
 ghost use Rattle.exports.specs.QueryReplies.{checkedReply, foundReply};
 use plans::Planned;
 use records::RunColumns;
@@ -51,7 +51,7 @@ pub struct FoundRun {
 // Reading, as `reading::read` has it: the table is put straight into this reply, and not first into that one.
 #[no_mangle]
 pub extern "C" fn planner_read(file: &[u8]) -> TableRead
-    ensures { λ r. ⌜ r ≡ tableRead (now (file .entry)) ⌝ }
+    ensures { λ r. ⌜ r ≡ readInC (now (file .entry)) ⌝ }
 {
     let answer = reading::answer(file);
     let number = answer.number();
@@ -101,9 +101,9 @@ pub extern "C" fn planner_plan(
     ends: &mut [u32],
     tasks: &mut [u32],
 ) -> Planned
-    ensures reply { λ r. ⌜ r ≡ planReply launch (now (file .entry)) (lent (now (marks .entry)) (now (starts .entry)) (now (ends .entry)) (now (tasks .entry))) ⌝ }
-    ensures lists_after { λ r. ⌜ lent (now (marks .exit)) (now (starts .exit)) (now (ends .exit)) (now (tasks .exit))
-        ≡ listsAfter launch (tableIn (now (file .entry))) r (lent (now (marks .entry)) (now (starts .entry)) (now (ends .entry)) (now (tasks .entry))) ⌝ }
+    ensures reply { λ r. ⌜ r ≡ planReply launch (now (file .entry)) (lentBefore marks starts ends tasks) ⌝ }
+    ensures lists_after { λ r. ⌜ lentAfter marks starts ends tasks
+        ≡ listsAfter launch (tableIn (now (file .entry))) r (lentBefore marks starts ends tasks) ⌝ }
 {
     planner::plan(file, launch, marks, starts, ends, tasks)
 }
@@ -111,9 +111,9 @@ pub extern "C" fn planner_plan(
 // Judging at a launch tick.
 #[no_mangle]
 pub extern "C" fn planner_judge(file: &[u8], launch: u32, marks: &[u8], runs: &[Run]) -> Judged
-    ensures { λ r. ⌜ r ≡ judged launch (now (file .entry)) (now (marks .entry)) (now (runs .entry)) ⌝ }
+    ensures { λ r. ⌜ r ≡ judgeReply launch (now (file .entry)) (now (marks .entry)) (now (runs .entry)) ⌝ }
 {
-    judging::judge_held(file, launch, marks, records::columns_of(runs))
+    judging::judge_copied(file, launch, marks, records::columns_of(runs))
 }
 
 // The busy count of the interval from a to b.
@@ -121,15 +121,15 @@ pub extern "C" fn planner_judge(file: &[u8], launch: u32, marks: &[u8], runs: &[
 pub extern "C" fn planner_busy(runs: &[Run], a: u32, b: u32) -> Busy
     ensures { λ r. ⌜ r ≡ busyReply (now (runs .entry)) a b ⌝ }
 {
-    busy::busy_held(records::columns_of(runs), a, b)
+    busy::busy_copied(records::columns_of(runs), a, b)
 }
 
 // The reply of the check, of runs that were copied into columns.
-fn checked_held(columns: RunColumns) -> Checked
-    requires { ⌜ HeldColumns columns ⌝ }
-    ensures { λ r. ⌜ r ≡ checkedReply (runsAnswer (runsHeld columns)) ⌝ }
+fn checked_copied(columns: RunColumns) -> Checked
+    requires { ⌜ LegalColumns columns ⌝ }
+    ensures { λ r. ⌜ r ≡ checkedReply (checkAnswer (copiedRuns columns)) ⌝ }
 {
-    let answer = queries::check_held(columns);
+    let answer = queries::check_copied(columns);
     Checked {
         number: answer.number(),
         place: answer.place(),
@@ -150,27 +150,27 @@ fn found_reply(answer: Found) -> FoundRun
 }
 
 // The reply of the query for a tick, of runs that were copied into columns.
-fn found_at_held(columns: RunColumns, tick: u32) -> FoundRun
-    requires { ⌜ HeldColumns columns ⌝ }
-    ensures { λ r. ⌜ r ≡ foundReply (runAtTick (runsHeld columns) tick) ⌝ }
+fn found_at_copied(columns: RunColumns, tick: u32) -> FoundRun
+    requires { ⌜ LegalColumns columns ⌝ }
+    ensures { λ r. ⌜ r ≡ foundReply (runAtTick (copiedRuns columns) tick) ⌝ }
 {
-    found_reply(queries::run_at_held(columns, tick))
+    found_reply(queries::run_at_copied(columns, tick))
 }
 
 // The reply of the query from a tick on, of runs that were copied into columns.
-fn found_from_held(columns: RunColumns, tick: u32) -> FoundRun
-    requires { ⌜ HeldColumns columns ⌝ }
-    ensures { λ r. ⌜ r ≡ foundReply (runFromTick (runsHeld columns) tick) ⌝ }
+fn found_from_copied(columns: RunColumns, tick: u32) -> FoundRun
+    requires { ⌜ LegalColumns columns ⌝ }
+    ensures { λ r. ⌜ r ≡ foundReply (runFromTick (copiedRuns columns) tick) ⌝ }
 {
-    found_reply(queries::run_from_held(columns, tick))
+    found_reply(queries::run_from_copied(columns, tick))
 }
 
 // What the busy count and the queries refuse of a run list.
 #[no_mangle]
 pub extern "C" fn planner_check_runs(runs: &[Run]) -> Checked
-    ensures { λ r. ⌜ r ≡ checkedReply (runsAnswer (now (runs .entry))) ⌝ }
+    ensures { λ r. ⌜ r ≡ checkedReply (checkAnswer (now (runs .entry))) ⌝ }
 {
-    checked_held(records::columns_of(runs))
+    checked_copied(records::columns_of(runs))
 }
 
 // The run that holds a tick.
@@ -178,7 +178,7 @@ pub extern "C" fn planner_check_runs(runs: &[Run]) -> Checked
 pub extern "C" fn planner_run_at(runs: &[Run], tick: u32) -> FoundRun
     ensures { λ r. ⌜ r ≡ foundReply (runAtTick (now (runs .entry)) tick) ⌝ }
 {
-    found_at_held(records::columns_of(runs), tick)
+    found_at_copied(records::columns_of(runs), tick)
 }
 
 // The first run that starts at a tick or after it.
@@ -186,7 +186,7 @@ pub extern "C" fn planner_run_at(runs: &[Run], tick: u32) -> FoundRun
 pub extern "C" fn planner_run_from(runs: &[Run], tick: u32) -> FoundRun
     ensures { λ r. ⌜ r ≡ foundReply (runFromTick (now (runs .entry)) tick) ⌝ }
 {
-    found_from_held(records::columns_of(runs), tick)
+    found_from_copied(records::columns_of(runs), tick)
 }
 
 // Where the runs stand that share a tick with the interval from a to b.
@@ -194,5 +194,5 @@ pub extern "C" fn planner_run_from(runs: &[Run], tick: u32) -> FoundRun
 pub extern "C" fn planner_runs_touching(runs: &[Run], a: u32, b: u32) -> Stretch
     ensures { λ r. ⌜ r ≡ stretchOf (now (runs .entry)) a b ⌝ }
 {
-    queries::stretch_held(records::columns_of(runs), a, b)
+    queries::stretch_copied(records::columns_of(runs), a, b)
 }

@@ -1,7 +1,6 @@
--- Functions that judge a table by a slice of run records: `judge_held(file, launch, marks, records::columns_of(runs))`. What such a function returns
--- is what `judged` says of the whole list, and it may promise whatever follows from that (`promise`). It is shown here once,
+-- Functions that judge a table by a slice of run records: `judge_copied(file, launch, marks, records::columns_of(runs))`. What such a function returns
+-- is what `judgeReply` says of the whole list, and it may promise whatever follows from that (`promise`). It is shown here once,
 -- by a walk of the MIR. All that the walk knows of what is called is that it meets its contract.
--- Assumes nothing.
 use mathlib.Core.Path.{_≡_, refl, sym, _∙_, ap, subst}
 use Prim.Native.Nat.{ℕ}
 use mathlib.Core.List.{List, [], _∷_}
@@ -38,10 +37,10 @@ use denote.Triple.Walked.{says, Stays, stay-none, stay-none-slice, walkOf, goes-
 use denote.Exit.{yes}
 use Rattle.records.proofs.Walking.{spot, value, returned, says-all}
 use Rattle.records.proofs.ColumnsCall.{value-of, sliceLocal, columnsLocal, said, lent, Own, First, twice, calls-columns, placed}
-use Rattle.schedule.specs.Judging.{judged}
+use Rattle.schedule.specs.Judging.{judgeReply}
 use Rattle.schedule.proofs.ManyRuns.{judge-many}
-use Rattle.records.specs.RecordColumns.{runsHeld, HeldColumns}
-use Rattle.records.proofs.HeldLaws.{columns-held, held-reply}
+use Rattle.records.specs.RecordColumns.{copiedRuns, LegalColumns}
+use Rattle.records.proofs.CopyLaws.{columns-legal, copied-reply}
 use Rattle.schedule.specs.declared.Run.{Run}
 use Rattle.schedule.proofs.Run as mRun
 use Rattle.records.specs.declared.RunColumns.{RunColumns}
@@ -52,10 +51,10 @@ use Rattle.schedule.proofs.Judged as mJudged
 use Rattle.schedule.proofs.Judged.Laws as mJudged′
 use Rattle.records.proofs.columns_of.Symbol as g-def
 use Rattle.records.proofs.columns_of.Symbol.{name as #g}
-use Rattle.judging.proofs.judge_held as h
-use Rattle.judging.proofs.judge_held.Symbol as h-def
-use Rattle.judging.proofs.judge_held.Symbol.{name as #h}
-use Rattle.judging.proofs.judge_held.Met as h-thm
+use Rattle.judging.proofs.judge_copied as h
+use Rattle.judging.proofs.judge_copied.Symbol as h-def
+use Rattle.judging.proofs.judge_copied.Symbol.{name as #h}
+use Rattle.judging.proofs.judge_copied.Met as h-thm
 
 -- the code
 abbrev pub function : Fn
@@ -93,9 +92,9 @@ clauses 𝓤 promise κs a = record {
   ensures = λ _ r _. promise (a .1 .0) (a .0 .now) (a .1 .1 .0 .now) (a .1 .1 .1 .0 .now) r;
 }
 
--- a promise that is kept by what `judged` says
+-- a promise that is kept by what `judgeReply` says
 abbrev pub Kept : {M : Type 1} (𝓤 : URA M) → Promise 𝓤 → Type 1
-Kept 𝓤 promise = (launch : ℕ) (file marks : List ℕ) (runs : List Run) (r : Judged) → r ≡ judged launch file marks runs
+Kept 𝓤 promise = (launch : ℕ) (file marks : List ℕ) (runs : List Run) (r : Judged) → r ≡ judgeReply launch file marks runs
     → ent 𝓤 (emp 𝓤) (promise launch file marks runs r)
 
 -- what is had of the parameters at exit
@@ -103,7 +102,7 @@ abbrev stayed : Stays (ended .signature .params) (ended .kept)
 stayed = (stay-none-slice (0 ∷ []) tt (plain (λ _. u8)) yes, (stay-none (λ _. u32) yes, (stay-none-slice (1 ∷ []) tt (plain (λ _. u8)) yes, (stay-none-slice (2 ∷ []) tt (plain (λ _. mRun.the-row)) yes, tt))))
 
 module _ {M : Type 1} (𝓤 : URA M) (H : Heap 𝓤) (A : Atoms 𝓤) (at-mem : Memory → SProp 𝓤) (run : Routine → Fun 𝓤) where
-  -- what `judge_held` promises
+  -- what `judge_copied` promises
   abbrev Then : Contract 𝓤
   Then = tripleOf 𝓤 H A h.signature (h.spec 𝓤 H A at-mem run)
 
@@ -114,11 +113,11 @@ module _ {M : Type 1} (𝓤 : URA M) (H : Heap 𝓤) (A : Atoms 𝓤) (W : Given
   abbrev bound : walkOf 𝓤 H A ended stayed (clauses 𝓤 promise) .Ghost
   bound = (((κ₀, (κ₁, (κ₂, tt))), (q₀, (q₁, (q₂, tt))), tt, (file, (launch, (marks, (runs, tt)))), (lent file ∷ [], ((vint w32 launch) ∷ [], (lent marks ∷ [], (lent runs ∷ [], tt))))), tt)
 
-  -- the call of `judge_held`: what it is passed, and that what it asks is there
+  -- the call of `judge_copied`: what it is passed, and that what it asks is there
   abbrev to-h : RunColumns → Val → Then 𝓤 H A at-mem run .Ghost
   to-h c w = (((κ₀, (κ₁, tt)), (q₀, (q₁, tt)), tt, (file, (launch, (marks, (c, tt)))), (lent file ∷ [], ((vint w32 launch) ∷ [], (lent marks ∷ [], (w ∷ [], tt))))), tt)
 
-  goes-h : (c : RunColumns) (w : Val) → Is mRunColumns.the-row c (w ∷ []) → Is u32 launch ((vint w32 launch) ∷ []) → HeldColumns c
+  goes-h : (c : RunColumns) (w : Val) → Is mRunColumns.the-row c (w ∷ []) → Is u32 launch ((vint w32 launch) ∷ []) → LegalColumns c
       → ent 𝓤 (⋆ 𝓤 H A ((‵ (flft κ₀ q₀) ⊛ ‵ (flft κ₁ q₁) ⊛ ‵ ftrue) ∷ ‵ (Own u8 κ₀ file) ∷ ‵ (Own u8 κ₁ marks) ∷ [])) (Then 𝓤 H A at-mem run .pre (to-h c w))
   goes-h c w gc glaunch l =
       qed W ((‵ (flft κ₀ q₀) ⊛ ‵ (flft κ₁ q₁) ⊛ ‵ ftrue) ∷ ‵ (Own u8 κ₀ file) ∷ ‵ (Own u8 κ₁ marks) ∷ []) ∵
@@ -126,7 +125,7 @@ module _ {M : Type 1} (𝓤 : URA M) (H : Heap 𝓤) (A : Atoms 𝓤) (W : Given
       fjoin ! $ move ! (2 ∷ 0 ∷ []) $ fjoin ! $ owned ! u32 (Is u32) (uint-makes 𝓤 H A W w32) launch _ glaunch $ fjoin ! $ move ! (1 ∷ 0 ∷ []) $ fjoin ! $ done !
 
   module _ (𝓣 : Tables 𝓤 H) (known-g : Triple 𝓤 (𝓣 .C #g) (First 𝓤 H A at-mem run)) (known-h : Triple 𝓤 (𝓣 .C #h) (Then 𝓤 H A at-mem run)) where
-    -- the walk: the parameters are passed, `records::columns_of` is called, then `judge_held`, and the locals are freed
+    -- the walk: the parameters are passed, `records::columns_of` is called, then `judge_copied`, and the locals are freed
     walk : Is (ShrSlice (named 0) κ₀ u8) file (lent file ∷ []) → Is u32 launch ((vint w32 launch) ∷ [])
         → Is (ShrSlice (named 1) κ₁ u8) marks (lent marks ∷ []) → Is (ShrSlice (named 2) κ₂ mRun.the-row) runs (lent runs ∷ [])
         → ent 𝓤 (onEntry 𝓤 H A (ended .signature) (κ₀, (κ₁, (κ₂, tt))) (q₀, (q₁, (q₂, tt))) (file, (launch, (marks, (runs, tt))))
@@ -150,21 +149,21 @@ module _ {M : Type 1} (𝓤 : URA M) (H : Heap 𝓤) (A : Atoms 𝓤) (W : Given
         land ! (spot !) (init ! 8 refl (LL.lawful mRunColumns.the-type mRunColumns′.the-laws 𝓤 H A W .typed c _ is .0)) $
         move ! (7 ∷ []) $ twice ! u8 κ₀ file $ move ! (7 ∷ []) $ twice ! u8 κ₁ marks $ nothing ! $ move ! (7 ∷ 0 ∷ []) $ join ! $ move ! (7 ∷ 0 ∷ []) $ join ! $ move ! (0 ∷ 4 ∷ 2 ∷ []) $
         use3 W (raw (Then 𝓤 H A at-mem run .pre (to-h c w)))
-        (goes-h c w is glaunch (subst HeldColumns (sym e) (columns-held (runs .now)))) $
+        (goes-h c w is glaunch (subst LegalColumns (sym e) (columns-legal (runs .now)))) $
         calls-at ! (fmOf 𝓤 H (W .laws) 𝓣) (Then 𝓤 H A at-mem run) known-h (to-h c w)
         (and-then ! (value ! 15 refl) (and-then ! (value ! 13 refl) (and-then ! (value ! 11 refl) (and-then ! (value ! 7 refl) (no-more !))))) (λ u.
         returned ! tt (‵ (flft κ₀ q₀) ⊛ ‵ (flft κ₁ q₁) ⊛ ‵ ftrue) mJudged.the-row
         (λ r. ensured 𝓤 H A h.ended (h.clauses 𝓤 H A at-mem run) (κ₀, (κ₁, tt)) (file, (launch, (marks, (c, tt)))) tt r)
-        (λ r. r ≡ judged launch (file .now) (marks .now) (runsHeld c))
-        (λ r. said 𝓤 H A h.ended (κ₀, (κ₁, tt)) (file, (launch, (marks, (c, tt)))) (r ≡ judged launch (file .now) (marks .now) (runsHeld c))) u (λ r e′ is′.
+        (λ r. r ≡ judgeReply launch (file .now) (marks .now) (copiedRuns c))
+        (λ r. said 𝓤 H A h.ended (κ₀, (κ₁, tt)) (file, (launch, (marks, (c, tt)))) (r ≡ judgeReply launch (file .now) (marks .now) (copiedRuns c))) u (λ r e′ is′.
         land ! (spot !) (init ! 18 refl (LL.lawful mJudged.the-type mJudged′.the-laws 𝓤 H A W .typed r _ is′ .0)) $
         returns ! (look ! 18 refl) $ forget ! 8 refl $ forget ! 10 refl $ forget ! 12 refl $ forget ! 14 refl $ forget ! 16 refl $ forget ! 18 refl $
         move ! (18 ∷ 19 ∷ []) $ free1 ! $ move ! (16 ∷ 17 ∷ []) $ free1 ! $ move ! (14 ∷ 15 ∷ []) $ free1 ! $ move ! (12 ∷ 13 ∷ []) $ free1 ! $ move ! (10 ∷ 11 ∷ []) $ free1 ! $ move ! (8 ∷ 9 ∷ []) $ free1 ! $ free0 ! $
         suffices ! _ (ends-at 𝓤 H A ended stayed (clauses 𝓤 promise) W bound u r (tt, (tt, (tt, (tt, tt)))) (tt, (tt, (tt, (tt, tt))))) $
         says-all ! (promise launch (file .now) (marks .now) (runs .now) r)
         (keeps launch (file .now) (marks .now) (runs .now) r
-        ((e′ ∙ ap (λ (c : RunColumns). judged launch (file .now) (marks .now) (runsHeld c)) e)
-        ∙ held-reply (judged launch (file .now) (marks .now)) (judge-many launch (file .now) (marks .now)) (runs .now))) $
+        ((e′ ∙ ap (λ (c : RunColumns). judgeReply launch (file .now) (marks .now) (copiedRuns c)) e)
+        ∙ copied-reply (judgeReply launch (file .now) (marks .now)) (judge-many launch (file .now) (marks .now)) (runs .now))) $
         move ! (4 ∷ []) $ split ! $ move ! (3 ∷ []) $ split ! $ move ! (1 ∷ []) $ split ! $ move ! (1 ∷ []) $ drop ! $
         move ! (2 ∷ 3 ∷ []) $ join ! $ move ! (1 ∷ 0 ∷ []) $ join ! $ move ! (1 ∷ 0 ∷ []) $ join ! $ frame ! $
         move ! (3 ∷ 4 ∷ []) $ fjoin ! $ move ! (2 ∷ 0 ∷ []) $ fjoin ! $ move ! (3 ∷ 0 ∷ []) $ fjoin ! $ move ! (2 ∷ 0 ∷ []) $ fjoin ! $ frame ! $ done !)))))))))
@@ -195,7 +194,7 @@ module _ {M : Type 1} (𝓤 : URA M) (H : Heap 𝓤) (A : Atoms 𝓤) (W : Given
 abbrev pub promised : {M : Type 1} (𝓤 : URA M) (H : Heap 𝓤) (A : Atoms 𝓤) → Promise 𝓤 → Contract 𝓤
 promised 𝓤 H A promise = tripleOf 𝓤 H A (ended .signature) (closing 𝓤 H A ended (clauses 𝓤 promise))
 
--- where an environment has the code, `judge_held` and `records::columns_of`, the function keeps its promise
+-- where an environment has the code, `judge_copied` and `records::columns_of`, the function keeps its promise
 pub judge-met : {M : Type 1} (𝓤 : URA M) (H : Heap 𝓤) (𝓜 : Model 𝓤 H) (𝓖 : GhostRules 𝓤 H) (𝓡 : Running 𝓤 H 𝓜) (promise : Promise 𝓤) → Kept 𝓤 promise
     → (env : Env) → env #g ≡ g-def.routine → env #h ≡ h-def.routine
     → (#key : Name) → Closed 𝓤 H (tables 𝓤 H 𝓜 𝓡 env .C) (tables 𝓤 H 𝓜 𝓡 env .Λ) #key function

@@ -1,18 +1,19 @@
-// Judging a keep list and a run list (an entry point): one pass over the runs and a few over the tasks, in a fixed amount of memory.
+// Judging a keep list and a run list (an entry point): the runs are copied into columns, then one pass over these and a few over the tasks, in a fixed
+// amount of memory.
 ghost use mathlib.Core.Path.{_≡_};
-ghost use mathlib.Core.Bool.{not};
 ghost use Prim.Native.Nat.{_≤_};
 ghost use lib.Dec.{eqb};
 ghost use lib.ListN.{length, getD};
 ghost use Rattle.base.specs.Limits.{maxTasks, maxRuns};
 ghost use Rattle.base.specs.Tests.{and};
-ghost use Rattle.base.specs.Lowest.{someBelow};
+ghost use Rattle.base.specs.Lowest.{everyBelow};
 ghost use Rattle.table.specs.Writing.{Legal};
-ghost use Rattle.schedule.specs.Jobs.{noJob, workOf, counts};
+ghost use Rattle.schedule.specs.Jobs.{workOf, counts};
+ghost use Rattle.schedule.specs.JobArrays.{noJob};
 ghost use Rattle.schedule.specs.Ticks.{countBelow};
-ghost use Rattle.schedule.specs.Runs.{runsOf};
-ghost use Rattle.schedule.specs.Judging.{firstBadMark, judgeDeclined, judgeTable, judged, Sound};
-ghost use Rattle.records.specs.RecordColumns.{HeldColumns, runsHeld};
+ghost use Rattle.schedule.specs.LentRuns.{OneLength, runsBefore};
+ghost use Rattle.schedule.specs.Judging.{firstBadMark, judgeDeclined, judgeTable, judgeReply, Sound};
+ghost use Rattle.records.specs.RecordColumns.{LegalColumns, copiedRuns};
 ghost use Rattle.schedule.specs.Passing.{runFits, Passed, verdictByPass};
 use base::MAX_TASKS;
 use records::RunColumns;
@@ -94,9 +95,8 @@ fn pass_runs(
 ) -> Pass
     requires { ⌜ count ≤ maxTasks ⌝ }
     requires { ⌜ length (now starts) ≤ maxRuns ⌝ }
-    requires { ⌜ length (now starts) ≡ length (now ends) ⌝ }
-    requires { ⌜ length (now starts) ≡ length (now tasks) ⌝ }
-    ensures { λ r. ⌜ Passed (λ k. getD jobs k noJob) count (runsOf (now (starts .entry)) (now (ends .entry)) (now (tasks .entry))) (r .fits) (r .totals) ⌝ }
+    requires { ⌜ OneLength starts ends tasks ⌝ }
+    ensures { λ r. ⌜ Passed (λ k. getD jobs k noJob) count (runsBefore starts ends tasks) (r .fits) (r .totals) ⌝ }
 {
     let mut totals = [0u64; MAX_TASKS];
     let mut from: u32 = 0;
@@ -140,7 +140,7 @@ fn work(job: Job, mark: u8) -> u64
 fn totals_exact(jobs: [Job; MAX_TASKS], count: u32, marks: &[u8], totals: [u64; MAX_TASKS]) -> bool
     requires { ⌜ count ≤ maxTasks ⌝ }
     requires { ⌜ length (now marks) ≡ count ⌝ }
-    ensures { λ r. ⌜ r ≡ not (someBelow (λ k. not (eqb (getD totals k 0) (workOf (getD jobs k noJob) (getD (now (marks .entry)) k 0)))) count) ⌝ }
+    ensures { λ r. ⌜ r ≡ everyBelow (λ k. eqb (getD totals k 0) (workOf (getD jobs k noJob) (getD (now (marks .entry)) k 0))) count ⌝ }
 {
     let mut k: usize = 0;
     while k < marks.len() {
@@ -153,7 +153,7 @@ fn totals_exact(jobs: [Job; MAX_TASKS], count: u32, marks: &[u8], totals: [u64; 
     true
 }
 
-// How many optional parts above 0 ticks have a mark.
+// How many optional parts above 0 ticks have this mark.
 fn count_marked(jobs: [Job; MAX_TASKS], count: u32, marks: &[u8], mark: u8) -> u32
     requires { ⌜ count ≤ maxTasks ⌝ }
     requires { ⌜ length (now marks) ≡ count ⌝ }
@@ -185,9 +185,8 @@ fn verdict_of(
     requires { ⌜ count ≤ maxTasks ⌝ }
     requires { ⌜ length (now marks) ≡ count ⌝ }
     requires { ⌜ length (now starts) ≤ maxRuns ⌝ }
-    requires { ⌜ (length (now starts) ≡ length (now ends)) × (length (now starts) ≡ length (now tasks)) ⌝ }
-    ensures { λ r. ⌜ r ≡ verdictByPass (λ k. getD jobs k noJob) count (now (marks .entry))
-        (runsOf (now (starts .entry)) (now (ends .entry)) (now (tasks .entry))) ⌝ }
+    requires { ⌜ OneLength starts ends tasks ⌝ }
+    ensures { λ r. ⌜ r ≡ verdictByPass (λ k. getD jobs k noJob) count (now (marks .entry)) (runsBefore starts ends tasks) ⌝ }
 {
     let pass = pass_runs(jobs, count, starts, ends, tasks);
     let fits = pass.fits;
@@ -208,8 +207,8 @@ fn judge_table(
     tasks: &[u32],
 ) -> Judged
     requires { ⌜ Legal table ⌝ }
-    requires { ⌜ (length (now starts) ≡ length (now ends)) × (length (now starts) ≡ length (now tasks)) ⌝ }
-    ensures { λ r. ⌜ r ≡ judgeTable launch table (now (marks .entry)) (runsOf (now (starts .entry)) (now (ends .entry)) (now (tasks .entry))) ⌝ }
+    requires { ⌜ OneLength starts ends tasks ⌝ }
+    ensures { λ r. ⌜ r ≡ judgeTable launch table (now (marks .entry)) (runsBefore starts ends tasks) ⌝ }
 {
     if clock::bad_launch(launch) {
         return declined(14, 0);
@@ -243,8 +242,8 @@ pub fn judge_columns(
     ends: &[u32],
     tasks: &[u32],
 ) -> Judged
-    requires { ⌜ (length (now starts) ≡ length (now ends)) × (length (now starts) ≡ length (now tasks)) ⌝ }
-    ensures { λ r. ⌜ r ≡ judged launch (now (file .entry)) (now (marks .entry)) (runsOf (now (starts .entry)) (now (ends .entry)) (now (tasks .entry))) ⌝ }
+    requires { ⌜ OneLength starts ends tasks ⌝ }
+    ensures { λ r. ⌜ r ≡ judgeReply launch (now (file .entry)) (now (marks .entry)) (runsBefore starts ends tasks) ⌝ }
 {
     let read = reading::read(file);
     let answer = read.answer;
@@ -255,10 +254,10 @@ pub fn judge_columns(
     judge_table(table, launch, marks, starts, ends, tasks)
 }
 
-// Judging runs that were copied into columns.
-pub fn judge_held(file: &[u8], launch: u32, marks: &[u8], columns: RunColumns) -> Judged
-    requires { ⌜ HeldColumns columns ⌝ }
-    ensures { λ r. ⌜ r ≡ judged launch (now (file .entry)) (now (marks .entry)) (runsHeld columns) ⌝ }
+// Judging runs that were copied into columns. It is public for the crate `exports` alone, which calls it as `judge` does.
+pub fn judge_copied(file: &[u8], launch: u32, marks: &[u8], columns: RunColumns) -> Judged
+    requires { ⌜ LegalColumns columns ⌝ }
+    ensures { λ r. ⌜ r ≡ judgeReply launch (now (file .entry)) (now (marks .entry)) (copiedRuns columns) ⌝ }
 {
     let n = columns.count;
     let starts = columns.starts;
@@ -269,8 +268,8 @@ pub fn judge_held(file: &[u8], launch: u32, marks: &[u8], columns: RunColumns) -
 
 // Judging: any bytes, launch tick, marks and run list get the reply of documents 01 and 02.
 pub fn judge(file: &[u8], launch: u32, marks: &[u8], runs: &[Run]) -> Judged
-    ensures reply { λ r. ⌜ r ≡ judged launch (now (file .entry)) (now (marks .entry)) (now (runs .entry)) ⌝ }
+    ensures reply { λ r. ⌜ r ≡ judgeReply launch (now (file .entry)) (now (marks .entry)) (now (runs .entry)) ⌝ }
     ensures sound { λ r. ⌜ Sound launch (now (file .entry)) (now (marks .entry)) (now (runs .entry)) r ⌝ }
 {
-    judge_held(file, launch, marks, records::columns_of(runs))
+    judge_copied(file, launch, marks, records::columns_of(runs))
 }

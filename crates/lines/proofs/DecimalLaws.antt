@@ -73,7 +73,7 @@ unfolding valueAfter
 value-grows high [] = omega arith
 value-grows high (byte ∷ bytes) = omega (arith, value-grows (10 * high + (byte - 48)) bytes)
 
--- a number's digits say the number, each is a digit, and the first is 0 only where the number is
+-- a number's digits mean the number, each is a digit, and the first is 0 only where the number is
 pub record Digits (n : ℕ) (bytes : List ℕ) : Type 0 where
   pub value : valueAfter 0 bytes ≡ n
   pub each : All (λ byte. (48 ≤ byte) × (byte ≤ 57)) bytes

@@ -37,7 +37,7 @@ unfolding allDigits
 digits-all [] h = refl
 digits-all (byte ∷ bytes) h = and-true (isDigit byte) (allDigits bytes) (known-digit byte (h .0 .0) (h .0 .1)) (digits-all bytes (h .1))
 
--- they say the number,
+-- they mean the number,
 decimal-value : (n : ℕ) → n ≤ maxNumber → valueOf (decimal n) ≡ n
 unfolding valueOf
 decimal-value n h = decimal-known n h .value
@@ -67,7 +67,7 @@ unfolding allNumbers
 words-numbers [] h = refl
 words-numbers (n ∷ numbers) h = and-true (isNumber (decimal n)) (allNumbers (map decimal numbers)) (decimal-number n (h .0)) (words-numbers numbers (h .1))
 
--- and say the numbers.
+-- and mean the numbers.
 words-values : (numbers : List ℕ) → Small numbers → map valueOf (map decimal numbers) ≡ numbers
 words-values [] h = refl
 words-values (n ∷ numbers) h = rw (decimal-value n (h .0), words-values numbers (h .1))
@@ -90,7 +90,7 @@ module _ (first : ℕ) (numbers : List ℕ) (small : Small (first ∷ numbers)) 
   pub content-right : allNumbers (wordsOf (content first numbers)) ≡ true
   content-right = rw content-words (words-numbers (first ∷ numbers) small)
 
-  -- and they say the numbers that were printed.
+  -- and they mean the numbers that were printed.
   pub content-numbers : numbersOf (content first numbers) ≡ first ∷ numbers
   unfolding numbersOf
   content-numbers = ap (map valueOf) content-words ∙ words-values (first ∷ numbers) small

@@ -1,4 +1,4 @@
--- Taking a text apart: into its lines, a line into its words, and a word into the number that it says.
+-- Taking a text apart: into its lines, a line into its words, and a word into the number that it means.
 use Prim.Native.Nat.{ℕ, _+_, _-_, _*_}
 use mathlib.Core.Bool.{Bool, true}
 use mathlib.Core.List.{List, [], _∷_, map}
@@ -38,12 +38,12 @@ linesOf text = cutAt (λ byte. eqb byte newline) text
 unfoldable pub wordsOf : List ℕ → List (List ℕ)
 wordsOf line = nonempty (cutAt isBlank line)
 
--- the number that decimal digits say, behind digits that say `high`
+-- the number that decimal digits mean, behind digits that mean `high`
 unfoldable pub valueAfter : ℕ → List ℕ → ℕ
 valueAfter high [] = high
 valueAfter high (byte ∷ bytes) = valueAfter (10 * high + (byte - digit 0)) bytes
 
--- the number that a word of digits says
+-- the number that a word of digits means
 unfoldable pub valueOf : List ℕ → ℕ
 valueOf word = valueAfter 0 word
 
@@ -52,11 +52,11 @@ unfoldable pub allDigits : List ℕ → Bool
 allDigits [] = true
 allDigits (byte ∷ bytes) = and (isDigit byte) (allDigits bytes)
 
--- the greatest number that a word may say
+-- the greatest number that a word may mean
 abbrev pub maxNumber : ℕ
 maxNumber = 999_999_999
 
--- a word is a number: digits alone, which say at most 999,999,999
+-- a word is a number: digits alone, which mean at most 999,999,999
 unfoldable pub isNumber : List ℕ → Bool
 isNumber word = and (allDigits word) (leb (valueOf word) maxNumber)
 

@@ -4,7 +4,7 @@ use mathlib.Core.Path.{_≡_, refl}
 use mathlib.Core.List.{List, [], _∷_, map}
 use Rattle.table.specs.declared.Table.{Table}
 use Rattle.schedule.specs.Jobs.{jobAt}
-use Rattle.schedule.specs.Shifting.{laterJobs}
+use Rattle.schedule.specs.LaterJobs.{laterJobs}
 use Rattle.schedule.specs.Earlier.{earlierJobAt}
 use Rattle.schedule.proofs.LaunchLaws.{job-launch, job-launch-0}
 use Rattle.orders.specs.KindOrder.{orderLastFirst, jobsLastFirst}

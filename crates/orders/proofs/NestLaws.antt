@@ -14,10 +14,10 @@ use Rattle.table.specs.Tables.{taskAt}
 use Rattle.table.specs.Windows.{badWindow, contains, nested}
 use Rattle.table.specs.Kinds.{isNested}
 use Rattle.table.specs.Writing.{Legal}
-use Rattle.table.proofs.KindLaws.{nested-sym, any-pairs, legal-forward}
+use Rattle.table.proofs.KindLaws.{nested-sym, any-pairs, legal-windows}
 use Rattle.schedule.specs.Jobs.{jobOf, jobAt}
 use Rattle.choice.proofs.LexLaws.{LexAtMost, less→atMost}
-use Rattle.placement.specs.Chains.{Between, Nested, Chain}
+use Rattle.placement.specs.Chains.{Between, NestedJobs, Chain}
 use Rattle.orders.specs.Sorting.{lastFirst}
 use Rattle.orders.specs.NestOrder.{framesAt, nestKey, nestBefore}
 use Rattle.orders.specs.KindOrder.{orderLastFirst, jobsLastFirst}
@@ -85,7 +85,7 @@ inside-ticks launch t a b e =
     )
 
 -- jobs of positions whose windows lie each inside those before it
-jobs-nested : (launch : ℕ) (t : Table) (js : List ℕ) → Sorted (inside t) js → Nested (map (jobAt launch t) js)
+jobs-nested : (launch : ℕ) (t : Table) (js : List ℕ) → Sorted (inside t) js → NestedJobs (map (jobAt launch t) js)
 jobs-nested launch t [] o = tt
 jobs-nested launch t (k ∷ js) o = (
   jobs-all launch t (λ j. inside t j k ≡ true) (Between (jobAt launch t k .release) (jobAt launch t k .deadline)) js (λ j e. inside-ticks launch t j k e) (o .0),
@@ -97,6 +97,6 @@ pub nest-chain : (launch : ℕ) (t : Table) → Legal t → isNested t ≡ true 
 unfolding jobsLastFirst
 nest-chain launch t l e =
     record {
-      nested = jobs-nested launch t (orderLastFirst t) (subst⁻¹ (Sorted (inside t)) (order-nested t e) (nest-falls t (legal-forward t l) e));
+      nested = jobs-nested launch t (orderLastFirst t) (subst⁻¹ (Sorted (inside t)) (order-nested t e) (nest-falls t (legal-windows t l) e));
       distinct = jobs-distinct launch t;
     }

@@ -20,7 +20,7 @@ use Rattle.table.specs.Writing.{Legal}
 use Rattle.table.proofs.KindLaws.{similar-sym, any-pairs, legal-similar}
 use Rattle.schedule.specs.Jobs.{jobOf, jobAt}
 use Rattle.choice.proofs.LexLaws.{LexAtMost, less→atMost}
-use Rattle.sequence.specs.Similar.{NotAfter, Ordered, Similar}
+use Rattle.sequence.specs.Similar.{NotAfter, Ordered, SimilarJobs}
 use Rattle.orders.specs.Sorting.{lastFirst}
 use Rattle.orders.specs.SimilarOrder.{similarKey, similarBefore}
 use Rattle.orders.specs.KindOrder.{orderLastFirst, jobsLastFirst}
@@ -83,7 +83,7 @@ jobs-ordered launch t (k ∷ js) o = (
 )
 
 -- The jobs of an accepted table that is not nested, last first, are similar jobs.
-pub similar-jobs : (launch : ℕ) (t : Table) → Legal t → isNested t ≡ false → Similar (jobsLastFirst launch t)
+pub similar-jobs : (launch : ℕ) (t : Table) → Legal t → isNested t ≡ false → SimilarJobs (jobsLastFirst launch t)
 unfolding jobsLastFirst
 similar-jobs launch t l e =
     record {

@@ -5,11 +5,13 @@ use mathlib.Core.List.{List, [], _∷_, reverse}
 use mathlib.Core.Bool.{Bool, true, false}
 use native.Mathlib.Omega.{arith}
 use lib.ListN.{length, getD}
-use Rattle.base.specs.Places.{placesFrom, places, firstPlaces}
+use Rattle.base.specs.Places.{placesFrom, places}
+use Rattle.base.specs.Arrays.{firstPlaces}
 use Rattle.base.proofs.PlaceLaws.{from-length, left-start, left-step, left-end}
 use Rattle.schedule.specs.declared.Job.{Job}
 use Rattle.schedule.specs.declared.Run.{Run}
-use Rattle.schedule.specs.Jobs.{noJob, workWith}
+use Rattle.schedule.specs.Jobs.{workWith}
+use Rattle.schedule.specs.JobArrays.{noJob}
 use Rattle.base.specs.Members.{All}
 use Rattle.choice.specs.Choice.{worksFit, worksOf, fits}
 use Rattle.placement.specs.Chains.{Chain}

@@ -1,11 +1,11 @@
 pub mod Necessity
 pub mod Sufficiency
-pub mod Best
+pub mod PlacedRunnings
 pub mod RunCount
 pub mod RunTicks
 pub mod RunOrder
 pub mod SampleLaws
-pub mod Permutations
+pub mod SameJobs
 pub mod PlanLaws
 pub mod PositionLaws
 pub mod GapLaws

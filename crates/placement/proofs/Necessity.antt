@@ -11,10 +11,12 @@ use Rattle.base.specs.Tests.{and}
 use Rattle.base.proofs.TestLaws.{cases}
 use Rattle.schedule.specs.declared.Job.{Job}
 use Rattle.schedule.specs.Ticks.{Owner, isTask, ticksOf}
-use Rattle.schedule.specs.Runnings.{got, Gets, Running, discards}
-use Rattle.base.specs.Members.{All, Distinct}
+use Rattle.schedule.specs.Runnings.{got, Gets, Running, discards, Whole}
+use Rattle.base.specs.Members.{All}
+use Rattle.base.specs.Arrays.{Distinct}
 use Rattle.schedule.proofs.TickLaws.{shares, count-grows, shares-fit}
-use Rattle.choice.specs.Choice.{total, worksFit, worksOf, totalWork, fits, discardedWorth, discarded}
+use Rattle.choice.specs.Choice.{total, worksFit, worksOf, fits, discardedWorth, discarded}
+use Rattle.choice.specs.KeepLists.{totalWork}
 use Rattle.schedule.specs.Jobs.{workWith}
 use Rattle.choice.proofs.WorkLaws.{works-cons}
 use Rattle.choice.proofs.FitLaws.{discarded-cons}
@@ -62,18 +64,18 @@ abbrev pub marksOf : List Job → Owner → List Bool
 marksOf jobs owner = map (isKept owner) jobs
 
 -- what a job gets is its work under the mark read off
-work-got : (owner : Owner) (job : Job) → Gets owner job → workWith job (isKept owner job) ≡ got owner job
+work-got : (owner : Owner) (job : Job) → Gets Whole owner job → workWith job (isKept owner job) ≡ got owner job
 work-got owner job (inl e) = cases (isKept owner job) (λ q. rw q (sym (eqb-true _ _ q))) (λ q. rw q (omega arith))
 work-got owner job (inr e) = rw (eq-eqb (got owner job) (job .mandatory + job .optional) e) (sym e)
 
 -- so the works under the marks read off are those read off
-pub marks-works : (owner : Owner) (jobs : List Job) → All (Gets owner) jobs → worksOf jobs (marksOf jobs owner) ≡ gotWorks jobs owner
+pub marks-works : (owner : Owner) (jobs : List Job) → All (Gets Whole owner) jobs → worksOf jobs (marksOf jobs owner) ≡ gotWorks jobs owner
 unfolding worksOf
 marks-works owner [] g = refl
 marks-works owner (job ∷ jobs) g = rw (work-got owner job (g .0), marks-works owner jobs (g .1))
 
 -- The work of such jobs under the marks read off is no more than the ticks there.
-pub work-fits : (owner : Owner) (jobs : List Job) (a b : ℕ) → Distinct (positions jobs) → All (Between a b) jobs → All (Gets owner) jobs
+pub work-fits : (owner : Owner) (jobs : List Job) (a b : ℕ) → Distinct (positions jobs) → All (Between a b) jobs → All (Gets Whole owner) jobs
     → totalWork jobs (marksOf jobs owner) ≤ b - a
 work-fits owner jobs a b d u g = rw (marks-works owner jobs g) (got-within owner jobs a b d u)
 
@@ -89,7 +91,7 @@ mark-discards g m o (inr e) =
     (λ q. rw q)
 
 -- the marks read off discard what the running discards
-marks-discard : (owner : Owner) (jobs : List Job) → All (Gets owner) jobs → discarded jobs (marksOf jobs owner) ≡ discards jobs owner
+marks-discard : (owner : Owner) (jobs : List Job) → All (Gets Whole owner) jobs → discarded jobs (marksOf jobs owner) ≡ discards jobs owner
 unfolding discardedWorth discards
 marks-discard owner [] g = refl
 marks-discard owner (job ∷ jobs) g =

@@ -6,7 +6,7 @@ use mathlib.Core.Bool.{Bool, true}
 use lib.ListN.{getD}
 use Rattle.schedule.specs.declared.Job.{Job}
 use Rattle.schedule.specs.Jobs.{workOf}
-use Rattle.schedule.specs.Ticks.{Owner, one}
+use Rattle.schedule.specs.Ticks.{Owner, oneIf}
 use Rattle.schedule.specs.Runnings.{got, RunningOf, Whole}
 use Rattle.base.specs.Members.{All}
 use Rattle.schedule.specs.declared.Run.{Run}
@@ -16,10 +16,9 @@ use Rattle.choice.proofs.FitLaws.{work-mark, fits-length}
 use Rattle.placement.specs.Chains.{Chain}
 use Rattle.placement.specs.Placing.{worksPlaced, placed, stretches}
 use Rattle.placement.specs.Outcomes.{GetsWorks, MayGet}
-use Rattle.placement.proofs.Best.{marks-may, works-running}
+use Rattle.placement.proofs.PlacedRunnings.{marks-may, works-running}
 use Rattle.placement.proofs.Sufficiency.{works-placed}
 use Rattle.placement.proofs.RunOrder.{Listed, works-listed}
-use Rattle.placement.proofs.Permutations.{Permuted, all-among, among-permuted, running-of-permuted}
 
 -- numbers by position that say the works of jobs, which stand in the order of the jobs
 abbrev pub SayWorks : (Job → ℕ → ℕ) → List Job → List ℕ → List ℕ → Type 0
@@ -61,7 +60,7 @@ abbrev pub SameMarks : List Job → List Bool → List ℕ → Type 0
 SameMarks [] [] marks = Unit {0}
 SameMarks [] (keep ∷ keeps) marks = ⊥
 SameMarks (job ∷ jobs) [] marks = ⊥
-SameMarks (job ∷ jobs) (keep ∷ keeps) marks = (getD marks (job .position) 0 ≡ one keep) × SameMarks jobs keeps marks
+SameMarks (job ∷ jobs) (keep ∷ keeps) marks = (getD marks (job .position) 0 ≡ oneIf keep) × SameMarks jobs keeps marks
 
 -- they say its works
 pub marks-say : (jobs : List Job) (keeps : List Bool) (marks : List ℕ) → SameMarks jobs keeps marks → SayWorks workOf jobs (worksOf jobs keeps) marks
@@ -76,17 +75,3 @@ pub placed-together : (jobs : List Job) (keeps : List Bool) (marks : List ℕ) �
     → (b : ℕ) → All (λ job. job .deadline ≤ b) jobs → Together jobs marks (stretches (placed jobs keeps) b)
 placed-together jobs keeps marks c e s b a =
     works-together Whole workOf jobs (worksOf jobs keeps) marks c e (marks-may jobs keeps (fits-length jobs keeps e)) (marks-say jobs keeps marks s) b a
-
--- Numbers and runs that are together a running of jobs are one of the jobs in any order.
-pub together-of-permuted : (May : Job → ℕ → Type 0) (workBy : Job → ℕ → ℕ) (jobs others : List Job) (numbers : List ℕ) (runs : List Run)
-    → Permuted jobs others → TogetherOf May workBy jobs numbers runs → TogetherOf May workBy others numbers runs
-together-of-permuted May workBy jobs others numbers runs p g =
-    record {
-      running = running-of-permuted May jobs others (ownerOf runs) p .0 (g .running);
-      work = all-among (λ job. got (ownerOf runs) job ≡ workBy job (getD numbers (job .position) 0)) jobs others (among-permuted jobs others p) (g .work);
-    }
-
--- So are marks and runs.
-pub together-permuted : (jobs others : List Job) (marks : List ℕ) (runs : List Run) → Permuted jobs others → Together jobs marks runs
-    → Together others marks runs
-together-permuted jobs others marks runs p g = together-of-permuted Whole workOf jobs others marks runs p g

@@ -11,7 +11,8 @@ use borrow.Author.Tests.{eq-eqb, ne-eqb}
 use Rattle.base.specs.Places.{placesFrom, places}
 use Rattle.base.proofs.PlaceLaws.{places-at, places-is, left-start, left-step, left-end}
 use Rattle.schedule.specs.declared.Job.{Job}
-use Rattle.base.specs.Members.{All, Any, Distinct}
+use Rattle.base.specs.Members.{All, Any}
+use Rattle.base.specs.Arrays.{Distinct}
 use Rattle.base.proofs.MemberLaws.{all-map}
 use Rattle.placement.specs.Chains.{positions}
 use Rattle.placement.specs.ByPosition.{numberAt}

@@ -8,7 +8,7 @@ use lib.ListN.{length, getD, set}
 use lib.Seq.{getD-set-same, getD-set-other}
 use Rattle.columns.specs.Columns.{insertedAt}
 use Rattle.columns.proofs.ColumnLaws.{inserted-below, inserted-here, inserted-above}
-use Rattle.schedule.specs.Runs.{runAt}
+use Rattle.schedule.specs.Runs.{runAtIndex}
 use Rattle.placement.specs.HeldRuns.{runBelow, RunInserted}
 
 module _ (starts ends tasks : List ℕ) (at i top n : ℕ) where
@@ -17,8 +17,8 @@ module _ (starts ends tasks : List ℕ) (at i top n : ℕ) where
       → ((j : ℕ) → getD newStarts j 0 ≡ insertedAt at end (top - n) (λ k. getD starts k 0) j)
       → ((j : ℕ) → getD newEnds j 0 ≡ insertedAt at end top (λ k. getD ends k 0) j)
       → ((j : ℕ) → getD newTasks j 0 ≡ insertedAt at end i (λ k. getD tasks k 0) j)
-      → RunInserted at end (runBelow i top n) (runAt starts ends tasks) (runAt newStarts newEnds newTasks)
-  unfolding runAt
+      → RunInserted at end (runBelow i top n) (runAtIndex starts ends tasks) (runAtIndex newStarts newEnds newTasks)
+  unfolding runAtIndex
   columns-inserted end newStarts newEnds newTasks l s e t =
       record {
         below = λ j b.
@@ -45,13 +45,13 @@ module _ (starts ends tasks : List ℕ) (at i top n : ℕ) where
 
   -- where each number is set, the run stands there
   pub columns-here : at < length starts → at < length ends → at < length tasks
-      → runAt (set starts at (top - n)) (set ends at top) (set tasks at i) at ≡ runBelow i top n
-  unfolding runAt
+      → runAtIndex (set starts at (top - n)) (set ends at top) (set tasks at i) at ≡ runBelow i top n
+  unfolding runAtIndex
   columns-here s e t =
       rw (getD-set-same starts at (top - n) 0 s, getD-set-same ends at top 0 e, getD-set-same tasks at i 0 t)
 
   -- and the others stand as before
-  pub columns-other : (j : ℕ) → j ≢ at → runAt (set starts at (top - n)) (set ends at top) (set tasks at i) j ≡ runAt starts ends tasks j
-  unfolding runAt
+  pub columns-other : (j : ℕ) → j ≢ at → runAtIndex (set starts at (top - n)) (set ends at top) (set tasks at i) j ≡ runAtIndex starts ends tasks j
+  unfolding runAtIndex
   columns-other j l =
       rw (getD-set-other starts at j (top - n) 0 l, getD-set-other ends at j top 0 l, getD-set-other tasks at j i 0 l)

@@ -9,7 +9,7 @@ use lib.ListN.{length}
 use borrow.Author.Tests.{ltb-true, lt-ltb, le-ltb}
 use Rattle.base.proofs.TestLaws.{cases}
 use Rattle.schedule.specs.declared.Job.{Job}
-use Rattle.schedule.specs.Ticks.{one}
+use Rattle.schedule.specs.Ticks.{oneIf}
 use Rattle.schedule.specs.declared.Run.{Run}
 use Rattle.schedule.proofs.TickLaws.{one-most}
 use Rattle.placement.specs.GapFilling.{addRun, fill, worksFilled}
@@ -17,7 +17,7 @@ use Rattle.placement.specs.GapFilling.{addRun, fill, worksFilled}
 -- how many runs there are, and how many gaps of free ticks above a run; the first gap is measured from `top`
 runsAndGaps : ℕ → List Run → ℕ
 runsAndGaps top [] = 0
-runsAndGaps top (run ∷ runs) = one (ltb (run .end) top) + 1 + runsAndGaps (run .start) runs
+runsAndGaps top (run ∷ runs) = oneIf (ltb (run .end) top) + 1 + runsAndGaps (run .start) runs
 
 -- the runs are no more than the runs and gaps
 length-most : (top : ℕ) (runs : List Run) → length runs ≤ runsAndGaps top runs

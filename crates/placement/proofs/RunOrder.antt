@@ -1,6 +1,6 @@
 -- The stretches of any owner: none is empty, they stand by start, they say who has each tick, and no two make one.
 use Prim.Native.Nat.{ℕ, zero, suc, _-_, _*_, _≤_}
-use mathlib.Core.Path.{_≡_, refl, sym, fun-ext, _∙_}
+use mathlib.Core.Path.{_≡_, refl, sym, _∙_}
 use mathlib.Core.List.{List, [], _∷_, reverseAux}
 use mathlib.Core.Bool.{Bool, true}
 use mathlib.Core.Option.{Option, none, some}
@@ -12,20 +12,16 @@ use borrow.Author.Tests.{leb-true, le-leb, lt-ltb, eqb-true, eqb-false}
 use Rattle.base.proofs.TestLaws.{cases, and-true, and-left, and-right}
 use Rattle.schedule.specs.declared.Job.{Job}
 use Rattle.schedule.specs.Ticks.{Owner}
-use Rattle.schedule.specs.Runnings.{RunningOf, Whole, Running}
 use Rattle.base.specs.Members.{All}
 use Rattle.schedule.specs.declared.Run.{Run}
-use Rattle.schedule.specs.Runs.{ownerOf}
-use Rattle.schedule.specs.Judging.{noneEmpty, followFrom, inOrder}
+use Rattle.schedule.specs.Runs.{ownerOf, everyRun}
+use Rattle.schedule.specs.Judging.{noneEmpty, followFrom, eachFollows}
 use Rattle.schedule.proofs.RunLaws.{in-holds, after-holds, free-before}
 use Rattle.choice.specs.Choice.{worksFit, worksOf, fits}
-use Rattle.choice.proofs.FitLaws.{fits-length}
 use Rattle.placement.specs.Chains.{Chain}
 use Rattle.placement.specs.Placing.{worksPlaced, placed, joinTick, joinTask, latestFirst, stretches}
 use Rattle.placement.specs.GapFilling.{worksFilled}
-use Rattle.placement.specs.Outcomes.{MayGet}
 use Rattle.placement.proofs.Sufficiency.{works-placed}
-use Rattle.placement.proofs.Best.{marks-may, works-running}
 use Rattle.placement.proofs.RunCount.{filled-few}
 use Rattle.placement.proofs.RunTicks.{Reads, Longest, free-beyond, filled-stretches}
 
@@ -117,7 +113,7 @@ follow-earlier a b (run ∷ runs) h e =
 -- runs by start that say who has each tick
 pub record Listed (owner : Owner) (runs : List Run) : Type 0 where
   pub nonempty : noneEmpty runs ≡ true
-  pub ordered : inOrder runs ≡ true
+  pub ordered : eachFollows runs ≡ true
   pub says : (tick : ℕ) → ownerOf runs tick ≡ owner tick
 
 -- the run whose start is `top`, before those from its end on
@@ -139,7 +135,7 @@ turn-owner owner run runs rest top d ne fo says tick h =
 -- turning all runs round
 turn : (owner : Owner) (runs rest : List Run) (top : ℕ) → Reads owner runs top → noneEmpty rest ≡ true → followFrom top rest ≡ true
     → ((tick : ℕ) → top ≤ tick → ownerOf rest tick ≡ owner tick) → Listed owner (reverseAux runs rest)
-unfolding noneEmpty followFrom inOrder
+unfolding everyRun followFrom eachFollows
 turn owner [] rest top d ne fo says =
     record {
       nonempty = ne;
@@ -158,7 +154,7 @@ turn owner (run ∷ runs) rest top d ne fo says =
 
 -- The stretches of an owner who has no tick from n on: none is empty, they stand by start, and they say who has each tick.
 pub stretches-listed : (owner : Owner) (n : ℕ) → ((tick : ℕ) → n ≤ tick → owner tick ≡ none) → Listed owner (stretches owner n)
-unfolding noneEmpty followFrom ownerOf
+unfolding everyRun followFrom ownerOf
 stretches-listed owner n free = turn owner (latestFirst owner n) [] n (latest-reads owner n .0) refl refl (λ tick h. sym (free tick h))
 
 -- The runs of a placing of a chain, where the works fit and no deadline is after b: none is empty, they stand by start, they say who has each
@@ -175,13 +171,6 @@ pub works-few : (jobs : List Job) (works : List ℕ) → Chain jobs → worksFit
 works-few jobs works c e b a =
     rw (filled-stretches jobs works c e b a) (omega (arith, length-reverse (worksFilled jobs works), filled-few jobs works))
 
--- Where each job may get its work, they are a running of the jobs.
-pub works-runs-running : (May : Job → ℕ → Type 0) (jobs : List Job) (works : List ℕ) → Chain jobs → worksFit jobs works ≡ true → MayGet May jobs works
-    → (b : ℕ) → All (λ job. job .deadline ≤ b) jobs → RunningOf May jobs (ownerOf (stretches (worksPlaced jobs works) b))
-works-runs-running May jobs works c e m b a =
-    let same : ownerOf (stretches (worksPlaced jobs works) b) ≡ worksPlaced jobs works = fun-ext (works-listed jobs works c e b a .says) in
-    rw same (works-running May jobs works c e m)
-
 -- The same under a keep list.
 pub placed-listed : (jobs : List Job) (keeps : List Bool) → Chain jobs → fits jobs keeps ≡ true → (b : ℕ) → All (λ job. job .deadline ≤ b) jobs
     → Listed (placed jobs keeps) (stretches (placed jobs keeps) b)
@@ -190,7 +179,3 @@ placed-listed jobs keeps c e b a = works-listed jobs (worksOf jobs keeps) c e b 
 pub placed-few : (jobs : List Job) (keeps : List Bool) → Chain jobs → fits jobs keeps ≡ true → (b : ℕ) → All (λ job. job .deadline ≤ b) jobs
     → length (stretches (placed jobs keeps) b) ≤ 2 * length jobs - 1
 placed-few jobs keeps c e b a = works-few jobs (worksOf jobs keeps) c e b a
-
-pub placed-runs-running : (jobs : List Job) (keeps : List Bool) → Chain jobs → fits jobs keeps ≡ true → (b : ℕ) → All (λ job. job .deadline ≤ b) jobs
-    → Running jobs (ownerOf (stretches (placed jobs keeps) b))
-placed-runs-running jobs keeps c e b a = works-runs-running Whole jobs (worksOf jobs keeps) c e (marks-may jobs keeps (fits-length jobs keeps e)) b a

@@ -13,7 +13,7 @@ use borrow.Author.Tests.{eqb-true, ne-eqb, eq-eqb, ltb-true, leb-true, le-leb, l
 use Rattle.base.specs.Tests.{and}
 use Rattle.base.proofs.TestLaws.{cases, both-absurd, same-test}
 use Rattle.schedule.specs.declared.Job.{Job}
-use Rattle.schedule.specs.Ticks.{Owner, countBelow}
+use Rattle.schedule.specs.Ticks.{Owner, countBelow, sumBelow}
 use Rattle.schedule.specs.Runnings.{WindowHolds}
 use Rattle.base.specs.Members.{All, Any}
 use Rattle.schedule.specs.declared.Run.{Run}
@@ -86,7 +86,7 @@ reads-latest owner (run ∷ runs) top d m =
 -- how many ticks are free where all are
 all-free : (owner : Owner) (a b : ℕ) → a ≤ b → ((tick : ℕ) → a ≤ tick → tick < b → owner tick ≡ none)
     → countBelow (λ tick. isFree (owner tick)) b ≡ countBelow (λ tick. isFree (owner tick)) a + (b - a)
-unfolding countBelow
+unfolding sumBelow
 all-free owner a b h f =
     le-ind (λ n. n ≤ b → countBelow (λ tick. isFree (owner tick)) n ≡ countBelow (λ tick. isFree (owner tick)) a + (n - a))
     (λ l. omega arith)
@@ -95,7 +95,7 @@ all-free owner a b h f =
 -- and where none is
 none-free : (owner : Owner) (k a b : ℕ) → a ≤ b → ((tick : ℕ) → a ≤ tick → tick < b → owner tick ≡ some k)
     → countBelow (λ tick. isFree (owner tick)) b ≡ countBelow (λ tick. isFree (owner tick)) a
-unfolding countBelow
+unfolding sumBelow
 none-free owner k a b h f =
     le-ind (λ n. n ≤ b → countBelow (λ tick. isFree (owner tick)) n ≡ countBelow (λ tick. isFree (owner tick)) a)
     (λ l. refl)

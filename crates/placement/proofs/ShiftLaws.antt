@@ -14,7 +14,8 @@ use Rattle.base.proofs.ListLaws.{map-reverse}
 use Rattle.schedule.specs.declared.Job.{Job}
 use Rattle.schedule.specs.declared.Run.{Run}
 use Rattle.schedule.specs.Ticks.{Owner}
-use Rattle.schedule.specs.Shifting.{laterJob, laterRun, laterJobs, laterRuns, LaterOwner}
+use Rattle.schedule.specs.Shifting.{laterRun, laterRuns}
+use Rattle.schedule.specs.LaterJobs.{laterJob, laterJobs, LaterOwner}
 use Rattle.schedule.proofs.ShiftLaws.{leb-later, ltb-later, eqb-later, count-shift}
 use Rattle.choice.specs.Choice.{worksOf}
 use Rattle.choice.proofs.ShiftLaws.{works-shift}

@@ -12,7 +12,7 @@ use borrow.Author.Tests.{ne-eqb, eq-eqb, ltb-true, ltb-false, leb-true, le-leb, 
 use Rattle.base.specs.Tests.{and}
 use Rattle.base.proofs.TestLaws.{cases, both-absurd, and-left, and-right}
 use Rattle.schedule.specs.declared.Job.{Job}
-use Rattle.schedule.specs.Ticks.{Owner, isTask, one, countBelow}
+use Rattle.schedule.specs.Ticks.{Owner, isTask, oneIf, countBelow, sumBelow}
 use Rattle.schedule.specs.Runnings.{WindowHolds, got}
 use Rattle.base.specs.Members.{All, Any}
 use Rattle.base.proofs.MemberLaws.{all-map}
@@ -58,7 +58,7 @@ module _ (owner : Owner) (job : Job) (w : ℕ) where
   -- up to the deadline: the job takes the last w free ticks
   free-window : w ≤ freeIn owner (job .release) (job .deadline) → (n : ℕ) → n ≤ job .deadline
       → freeBefore n ≡ freeAfter n + (freeBefore n - (freeBefore (job .deadline) - w))
-  unfolding countBelow
+  unfolding sumBelow
   free-window f zero h = omega arith
   free-window f (suc n) h =
       let ih = free-window f n (omega arith) in
@@ -67,13 +67,13 @@ module _ (owner : Owner) (job : Job) (w : ℕ) where
       (λ e.
       cases (reachesBack owner job w n)
       (λ q.
-      let x : one (isFree (owner n)) ≡ 1 = rw e in
-      let y : one (isFree (placeJob owner job w n)) ≡ 0 = rw (q, e) in
+      let x : oneIf (isFree (owner n)) ≡ 1 = rw e in
+      let y : oneIf (isFree (placeJob owner job w n)) ≡ 0 = rw (q, e) in
       let r = reach-true n q in
       omega (arith, count-grows (λ tick. isFree (owner tick)) (job .release) n (r .0)))
       (λ q.
-      let x : one (isFree (owner n)) ≡ 1 = rw e in
-      let y : one (isFree (placeJob owner job w n)) ≡ 1 = rw (q, e) in
+      let x : oneIf (isFree (owner n)) ≡ 1 = rw e in
+      let y : oneIf (isFree (placeJob owner job w n)) ≡ 1 = rw (q, e) in
       elim (decLe (job .release) n) [
         | yes l ↦ omega (arith, reach-false n q l h, count-grows (λ tick. isFree (owner tick)) (job .release) n l)
         | no l ↦ omega (arith, count-grows (λ tick. isFree (owner tick)) (suc n) (job .release) (omega arith))
@@ -82,7 +82,7 @@ module _ (owner : Owner) (job : Job) (w : ℕ) where
 
   -- from the deadline on: w free ticks fewer
   free-after : w ≤ freeIn owner (job .release) (job .deadline) → (n : ℕ) → job .deadline ≤ n → freeBefore n ≡ freeAfter n + w
-  unfolding countBelow
+  unfolding sumBelow
   free-after f n h =
       le-ind (λ m. freeBefore m ≡ freeAfter m + w)
       (omega (arith, free-window f (job .deadline) (omega arith)))
@@ -99,7 +99,7 @@ give-other i k false none d = refl
 give-other i k test (some m) d = refl
 
 -- a tick given to task i was free
-give-sum : (i : ℕ) (test : Bool) (o : Option ℕ) → one (isTask i (give i test o)) + one (isFree (give i test o)) ≡ one (isTask i o) + one (isFree o)
+give-sum : (i : ℕ) (test : Bool) (o : Option ℕ) → oneIf (isTask i (give i test o)) + oneIf (isFree (give i test o)) ≡ oneIf (isTask i o) + oneIf (isFree o)
 give-sum i true none = rw (eq-eqb i i refl)
 give-sum i false none = refl
 give-sum i test (some m) = refl
@@ -108,7 +108,7 @@ give-sum i test (some m) = refl
 gains : (owner : Owner) (job : Job) (w n : ℕ)
     → countBelow (λ tick. isTask (job .position) (placeJob owner job w tick)) n + freeAfter owner job w n
     ≡ countBelow (λ tick. isTask (job .position) (owner tick)) n + freeBefore owner job w n
-unfolding countBelow
+unfolding sumBelow
 gains owner job w zero = refl
 gains owner job w (suc n) = omega (arith, gains owner job w n, give-sum (job .position) (reachesBack owner job w n) (owner n))
 
@@ -141,7 +141,7 @@ others-keep owner job w jobs works d g =
 
 -- every tick passes a test that always holds
 count-all : (n : ℕ) → countBelow (λ tick. true) n ≡ n
-unfolding countBelow
+unfolding sumBelow
 count-all zero = refl
 count-all (suc n) = omega (arith, count-all n)
 

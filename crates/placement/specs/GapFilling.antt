@@ -1,5 +1,5 @@
--- For the proofs of placing's code alone: the placing by runs, as the code computes it: a list of runs, latest first, into whose gaps each job is filled in from its deadline downwards.
--- Jobs stand outermost first.
+-- For the proofs of placing's code alone: the placing by runs: a list of runs, latest first, into whose gaps each job is filled from its deadline downwards.
+-- Jobs stand outermost first. How the code holds the runs is said in HeldRuns.
 use Prim.Native.Nat.{ℕ, zero, suc, _-_, min}
 use mathlib.Core.List.{List, [], _∷_}
 use mathlib.Core.Bool.{Bool}

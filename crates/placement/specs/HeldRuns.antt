@@ -1,13 +1,15 @@
--- For the proofs of placing's and sequencing's code alone: the runs found so far, as the code holds them while jobs are filled in: by start, in columns, at the places from a first to an end.
+-- For the proofs of placing's, sequencing's and planner's code alone: the runs found so far, as placing's code holds them while jobs are filled in, by
+-- start, in columns, at the places from a first to an end; and the lent columns that runs are put into.
+use denote.Ref.{RefT, now}
 use Prim.Native.Nat.{ℕ, zero, suc, _+_, _-_, _≤_, _<_}
 use mathlib.Core.Path.{_≡_}
 use mathlib.Core.List.{List, [], _∷_, _++_}
 use lib.ListN.{length}
-use Rattle.base.specs.Limits.{maxTasks, maxPlanRuns}
-use Rattle.base.specs.Lent.{writtenFront}
+use Rattle.base.specs.Limits.{maxTasks, mostRuns, maxPlanRuns}
+use Rattle.base.specs.Lent.{ListParameter, writtenFront}
 use Rattle.schedule.specs.declared.Job.{Job}
 use Rattle.schedule.specs.declared.Run.{Run}
-use Rattle.schedule.specs.Runs.{startsOf, endsOf, tasksOf}
+use Rattle.schedule.specs.Runs.{runAtIndex, startsOf, endsOf, tasksOf}
 use Rattle.placement.specs.declared.Span.{Span}
 use Rattle.placement.specs.GapFilling.{fill}
 
@@ -71,3 +73,22 @@ FrontsWritten runs starts ends tasks newStarts newEnds newTasks =
     (newStarts ≡ writtenFront (startsOf runs) starts)
     × (newEnds ≡ writtenFront (endsOf runs) ends)
     × (newTasks ≡ writtenFront (tasksOf runs) tasks)
+
+-- the same of columns that were lent to a call
+abbrev pub RunsPut : List Run → ListParameter → ListParameter → ListParameter → Type 0
+RunsPut runs starts ends tasks =
+    FrontsWritten runs (now (starts .entry)) (now (ends .entry)) (now (tasks .entry)) (now (starts .exit)) (now (ends .exit)) (now (tasks .exit))
+
+-- three lists have room for the runs of n tasks
+abbrev pub RunsRoom : ℕ → List ℕ → List ℕ → List ℕ → Type 0
+RunsRoom n starts ends tasks = (mostRuns n ≤ length starts) × (mostRuns n ≤ length ends) × (mostRuns n ≤ length tasks)
+
+-- what the places of three lent columns hold: for a `requires`, and in an `ensures` as the call begins and as it returns
+abbrev pub placesNow : RefT (List ℕ) → RefT (List ℕ) → RefT (List ℕ) → ℕ → Run
+placesNow starts ends tasks = runAtIndex (now starts) (now ends) (now tasks)
+
+abbrev pub placesBefore : ListParameter → ListParameter → ListParameter → ℕ → Run
+placesBefore starts ends tasks = placesNow (starts .entry) (ends .entry) (tasks .entry)
+
+abbrev pub placesAfter : ListParameter → ListParameter → ListParameter → ℕ → Run
+placesAfter starts ends tasks = placesNow (starts .exit) (ends .exit) (tasks .exit)

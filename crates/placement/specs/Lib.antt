@@ -1,7 +1,7 @@
-pub mod Chains
 pub mod Placing
+pub mod ByPosition
+pub mod PlacingSamples
+pub mod Chains
 pub mod Outcomes
 pub mod GapFilling
 pub mod HeldRuns
-pub mod ByPosition
-pub mod PlacingSamples

@@ -1,11 +1,11 @@
--- What the theorems say of a placing: each job gets its work, and no running of the jobs discards fewer optional parts.
-use Prim.Native.Nat.{ℕ, _≤_}
+-- For proofs alone: what the theorems say of a placing: each job gets its work, and may get it.
+use Prim.Native.Nat.{ℕ}
 use mathlib.Core.Path.{_≡_}
 use mathlib.Core.List.{List, [], _∷_}
 use mathlib.Core.Bool.{Bool}
 use Rattle.schedule.specs.declared.Job.{Job}
 use Rattle.schedule.specs.Ticks.{Owner}
-use Rattle.schedule.specs.Runnings.{got, Running, discards}
+use Rattle.schedule.specs.Runnings.{got}
 use Rattle.choice.specs.Choice.{worksOf}
 
 -- there is one work a job, and each job gets its work
@@ -25,7 +25,3 @@ MayGet May [] [] = Unit {0}
 MayGet May [] (work ∷ works) = ⊥
 MayGet May (job ∷ jobs) [] = ⊥
 MayGet May (job ∷ jobs) (work ∷ works) = May job work × MayGet May jobs works
-
--- no running of the jobs discards fewer optional parts
-abbrev pub Fewest : List Job → Owner → Type 0
-Fewest jobs owner = (other : Owner) → Running jobs other → discards jobs owner ≤ discards jobs other

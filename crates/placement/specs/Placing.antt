@@ -1,23 +1,22 @@
 -- Where the work of each job is placed, tick by tick. Jobs stand outermost first (nest order from its last to its first), and so do their works.
 use Prim.Native.Nat.{ℕ, zero, suc}
 use mathlib.Core.List.{List, [], _∷_, reverse}
-use mathlib.Core.Bool.{Bool, true, false}
+use mathlib.Core.Bool.{Bool, true, false, not}
 use mathlib.Core.Option.{Option, none, some}
 use lib.Dec.{leb, ltb, eqb}
 use Rattle.base.specs.Tests.{pick, and}
 use Rattle.schedule.specs.declared.Job.{Job}
-use Rattle.schedule.specs.Ticks.{Owner, countIn}
+use Rattle.schedule.specs.Ticks.{Owner, countBetween, isOwned}
 use Rattle.schedule.specs.declared.Run.{Run}
 use Rattle.choice.specs.Choice.{worksOf}
 
 -- a tick is free where no task has it
 abbrev pub isFree : Option ℕ → Bool
-isFree none = true
-isFree (some i) = false
+isFree owner = not (isOwned owner)
 
 -- how many of the ticks from a, included, to b, excluded, are free
 abbrev pub freeIn : Owner → ℕ → ℕ → ℕ
-freeIn owner a b = countIn (λ tick. isFree (owner tick)) a b
+freeIn owner a b = countBetween (λ tick. isFree (owner tick)) a b
 
 -- a free tick goes to task i where the test holds; any other stays as it is
 abbrev pub give : ℕ → Bool → Option ℕ → Option ℕ

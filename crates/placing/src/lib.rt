@@ -1,17 +1,18 @@
 // The placing of nested jobs: which ticks each task gets, and the runs that they make. Jobs stand outermost first. The runs found so far stand by
 // start in three columns, and each job is filled into the gaps between them from its deadline downwards.
 ghost use mathlib.Core.Path.{_≡_};
-ghost use mathlib.Core.Bool.{true, false};
-ghost use Prim.Native.Nat.{ℕ, _+_, _-_, _*_, _≤_, _<_, min};
-ghost use lib.ListN.{length, getD};
+ghost use mathlib.Core.Bool.{true};
+ghost use Prim.Native.Nat.{_+_, _-_, _≤_, _<_, min};
+ghost use lib.ListN.{length};
 ghost use Rattle.base.specs.Limits.{maxTasks, maxPlanRuns};
-ghost use Rattle.base.specs.Places.{firstPlaces};
-ghost use Rattle.schedule.specs.Jobs.{noJob, Bounded, workWith};
-ghost use Rattle.schedule.specs.Runs.{runAt};
+ghost use Rattle.schedule.specs.Jobs.{workWith};
+ghost use Rattle.schedule.specs.JobArrays.{Bounded, jobsIn, AllBounded};
+ghost use Rattle.choice.specs.KeepLists.{keepsIn};
 ghost use Rattle.choice.specs.Choice.{fits};
 ghost use Rattle.placement.specs.Chains.{Chain};
 ghost use Rattle.placement.specs.Placing.{runsPlaced};
-ghost use Rattle.placement.specs.HeldRuns.{runsDown, runBelow, RunInserted, Held, jobFilled, FilledAbove, Room, FrontsWritten};
+ghost use Rattle.placement.specs.HeldRuns.{runsDown, runBelow, RunInserted, Held, jobFilled, FilledAbove, Room, RunsRoom, RunsPut};
+ghost use Rattle.placement.specs.HeldRuns.{placesNow, placesBefore, placesAfter};
 use base::MAX_PLAN_RUNS;
 use base::MAX_TASKS;
 use placement::Span;
@@ -19,9 +20,9 @@ use schedule::Job;
 
 // The places of a column: each task may put one run in front of the others, and from the first of them on there are at most as many as a plan
 // may have.
-const PLACES: usize = MAX_TASKS + MAX_PLAN_RUNS;
+const COLUMN_PLACES: usize = MAX_TASKS + MAX_PLAN_RUNS;
 
-// Where they stand before the first job: there is none, and below it there is a place for each task.
+// Where the runs stand before the first job: there are none, and below their first place there is one for each task.
 const NO_RUNS: Span = Span {
     first: MAX_TASKS,
     closed: MAX_TASKS,
@@ -70,9 +71,7 @@ fn insert_run(
     requires { ⌜ n ≤ top ⌝ }
     requires { ⌜ at ≤ end ⌝ }
     requires { ⌜ (end < length (now starts)) × (end < length (now ends)) × (end < length (now tasks)) ⌝ }
-    ensures { λ _. ⌜ RunInserted at end (runBelow task top n)
-        (runAt (now (starts .entry)) (now (ends .entry)) (now (tasks .entry)))
-        (runAt (now (starts .exit)) (now (ends .exit)) (now (tasks .exit))) ⌝ }
+    ensures { λ _. ⌜ RunInserted at end (runBelow task top n) (placesBefore starts ends tasks) (placesAfter starts ends tasks) ⌝ }
 {
     columns::insert(starts, at, end, top - n);
     columns::insert(ends, at, end, top);
@@ -91,10 +90,9 @@ fn fill_gaps(
 ) -> GapsFilled
     requires { ⌜ span .first ≤ maxTasks ⌝ }
     requires { ⌜ Room (now starts) (now ends) (now tasks) ⌝ }
-    requires { ⌜ Held span (runAt (now starts) (now ends) (now tasks)) ⌝ }
-    requires { ⌜ length (jobFilled span job work (runAt (now starts) (now ends) (now tasks))) ≤ maxPlanRuns ⌝ }
-    ensures { λ r. ⌜ FilledAbove span job work (runAt (now (starts .entry)) (now (ends .entry)) (now (tasks .entry))) (r .end) (r .left)
-        (runAt (now (starts .exit)) (now (ends .exit)) (now (tasks .exit))) ⌝ }
+    requires { ⌜ Held span (placesNow starts ends tasks) ⌝ }
+    requires { ⌜ length (jobFilled span job work (placesNow starts ends tasks)) ≤ maxPlanRuns ⌝ }
+    ensures { λ r. ⌜ FilledAbove span job work (placesBefore starts ends tasks) (r .end) (r .left) (placesAfter starts ends tasks) ⌝ }
 {
     let mut end = span.end;
     let mut k = span.end;
@@ -129,12 +127,12 @@ fn fill_job(
 ) -> Span
     requires { ⌜ (0 < span .first) × (span .first ≤ maxTasks) ⌝ }
     requires { ⌜ Room (now starts) (now ends) (now tasks) ⌝ }
-    requires { ⌜ Held span (runAt (now starts) (now ends) (now tasks)) ⌝ }
-    requires { ⌜ length (jobFilled span job work (runAt (now starts) (now ends) (now tasks))) ≤ maxPlanRuns ⌝ }
+    requires { ⌜ Held span (placesNow starts ends tasks) ⌝ }
+    requires { ⌜ length (jobFilled span job work (placesNow starts ends tasks)) ≤ maxPlanRuns ⌝ }
     ensures { λ r. ⌜ (r .first ≤ span .first) × (span .first ≤ r .first + 1) ⌝ }
-    ensures { λ r. ⌜ Held r (runAt (now (starts .exit)) (now (ends .exit)) (now (tasks .exit))) ⌝ }
-    ensures { λ r. ⌜ runsDown (runAt (now (starts .exit)) (now (ends .exit)) (now (tasks .exit))) (r .first) (r .end)
-        ≡ jobFilled span job work (runAt (now (starts .entry)) (now (ends .entry)) (now (tasks .entry))) ⌝ }
+    ensures { λ r. ⌜ Held r (placesAfter starts ends tasks) ⌝ }
+    ensures { λ r. ⌜ runsDown (placesAfter starts ends tasks) (r .first) (r .end)
+        ≡ jobFilled span job work (placesBefore starts ends tasks) ⌝ }
 {
     let filled = fill_gaps(starts, ends, tasks, span, job, work);
     let end = filled.end;
@@ -171,17 +169,16 @@ pub fn place(
     tasks: &mut [u32],
 ) -> usize
     requires { ⌜ count ≤ maxTasks ⌝ }
-    requires { ⌜ ((k : ℕ) → k < count → Bounded (getD jobs k noJob)) ⌝ }
-    requires { ⌜ Chain (firstPlaces noJob jobs count) ⌝ }
-    requires { ⌜ fits (firstPlaces noJob jobs count) (firstPlaces false keeps count) ≡ true ⌝ }
-    requires { ⌜ (2 * count - 1 ≤ length (now starts)) × (2 * count - 1 ≤ length (now ends)) × (2 * count - 1 ≤ length (now tasks)) ⌝ }
-    ensures { λ r. ⌜ r ≡ length (runsPlaced (firstPlaces noJob jobs count) (firstPlaces false keeps count)) ⌝ }
-    ensures { λ r. ⌜ FrontsWritten (runsPlaced (firstPlaces noJob jobs count) (firstPlaces false keeps count))
-        (now (starts .entry)) (now (ends .entry)) (now (tasks .entry)) (now (starts .exit)) (now (ends .exit)) (now (tasks .exit)) ⌝ }
+    requires { ⌜ AllBounded jobs count ⌝ }
+    requires { ⌜ Chain (jobsIn jobs count) ⌝ }
+    requires { ⌜ fits (jobsIn jobs count) (keepsIn keeps count) ≡ true ⌝ }
+    requires { ⌜ RunsRoom count (now starts) (now ends) (now tasks) ⌝ }
+    ensures { λ r. ⌜ r ≡ length (runsPlaced (jobsIn jobs count) (keepsIn keeps count)) ⌝ }
+    ensures { λ r. ⌜ RunsPut (runsPlaced (jobsIn jobs count) (keepsIn keeps count)) starts ends tasks ⌝ }
 {
-    let mut held_starts = [0u32; PLACES];
-    let mut held_ends = [0u32; PLACES];
-    let mut held_tasks = [0u32; PLACES];
+    let mut held_starts = [0u32; COLUMN_PLACES];
+    let mut held_ends = [0u32; COLUMN_PLACES];
+    let mut held_tasks = [0u32; COLUMN_PLACES];
     let mut span = NO_RUNS;
     let mut i = count;
     while 0 < i {

@@ -6,23 +6,28 @@ ghost use mathlib.Core.List.{_++_, reverse};
 ghost use Prim.Native.Nat.{ℕ, _≤_, _<_};
 ghost use lib.ListN.{length, getD, drop};
 ghost use Rattle.base.specs.Limits.{maxTasks};
-ghost use Rattle.base.specs.Places.{places, firstPlaces};
+ghost use Rattle.base.specs.Places.{places};
 ghost use Rattle.table.specs.Answers.{numberOf, placeOf};
 ghost use Rattle.table.specs.Kinds.{isNested};
-ghost use Rattle.table.specs.Reading.{tableIn, reading};
+ghost use Rattle.table.specs.Reading.{tableIn, readReply};
 ghost use Rattle.table.specs.Writing.{Legal};
-ghost use Rattle.schedule.specs.Jobs.{noJob, Bounded};
-ghost use Rattle.base.specs.Members.{Any, Distinct};
+ghost use Rattle.schedule.specs.JobArrays.{noJob, jobsIn, AllBounded};
+ghost use Rattle.base.specs.Members.{Any};
+ghost use Rattle.base.specs.Arrays.{Distinct};
 ghost use Rattle.placement.specs.Chains.{positions};
+ghost use Rattle.placement.specs.HeldRuns.{RunsRoom, RunsPut};
+ghost use Rattle.choice.specs.KeepLists.{ChosenFor, keepsIn};
 ghost use Rattle.choice.specs.Choice.{keepNone};
 ghost use Rattle.orders.specs.Keys.{KeysHeld};
-ghost use Rattle.plans.specs.Planning.{exceedingAfter, fitsBy, tooShort, markAt, planDeclined, planMade, madeBy, replyBy, writtenBy, afterBy};
-ghost use Rattle.plans.specs.Planning.{lent, shortLists, planTable, planReply, listsAfter};
+ghost use Rattle.plans.specs.Planning.{exceedingAfter, unmetBy, chosenBy, runsBy, tooShort, markAt, planDeclined, planMade, madeBy, replyBy, writtenBy, afterBy};
+ghost use Rattle.plans.specs.PlanParts.{fitsBy};
+ghost use Rattle.plans.specs.Planning.{lent, lentBefore, lentAfter, shortLists, planTable, planReply, listsAfter};
 ghost use Rattle.plans.specs.Launch.{EarlierAtZero, LaterByLaunch};
 ghost use Rattle.plans.specs.KindJobs.{HeldJobs};
 ghost use Rattle.plans.specs.Demands.{EightExactly, JudgeAccepts, PlannedOptimal};
 ghost use Rattle.plans.specs.Rules.{PlannedByRules, EightFirst};
 use base::MAX_TASKS;
+use choosing::Choice;
 use plans::Planned;
 use schedule::Job;
 use table::Answer;
@@ -58,8 +63,8 @@ fn planned(kept: u32, discarded: u32, runs: usize) -> Planned
 // is none. The jobs of a nested table stand outermost first at the first `count` places.
 fn first_exceeding(jobs: [Job; MAX_TASKS], count: usize) -> usize
     requires { ⌜ count ≤ maxTasks ⌝ }
-    requires { ⌜ ((k : ℕ) → k < count → Bounded (getD jobs k noJob)) ⌝ }
-    ensures { λ r. ⌜ r ≡ exceedingAfter count 0 (reverse (firstPlaces noJob jobs count)) ⌝ }
+    requires { ⌜ AllBounded jobs count ⌝ }
+    ensures { λ r. ⌜ r ≡ exceedingAfter count 0 (reverse (jobsIn jobs count)) ⌝ }
 {
     let mut sum: u32 = 0;
     let mut i = count;
@@ -97,10 +102,10 @@ fn put_marks(jobs: [Job; MAX_TASKS], keeps: [bool; MAX_TASKS], count: usize, mar
     requires { ⌜ count ≤ maxTasks ⌝ }
     requires { ⌜ count ≤ length (now marks) ⌝ }
     requires { ⌜ ((k : ℕ) → k < count → getD jobs k noJob .position < count) ⌝ }
-    requires { ⌜ Distinct (positions (firstPlaces noJob jobs count)) ⌝ }
-    requires { ⌜ ((k : ℕ) → k < count → Any (λ job. job .position ≡ k) (firstPlaces noJob jobs count)) ⌝ }
+    requires { ⌜ Distinct (positions (jobsIn jobs count)) ⌝ }
+    requires { ⌜ ((k : ℕ) → k < count → Any (λ job. job .position ≡ k) (jobsIn jobs count)) ⌝ }
     ensures { λ _. ⌜ now (marks .exit)
-        ≡ places (markAt (firstPlaces noJob jobs count) (firstPlaces false keeps count)) count ++ drop count (now (marks .entry)) ⌝ }
+        ≡ places (markAt (jobsIn jobs count) (keepsIn keeps count)) count ++ drop count (now (marks .entry)) ⌝ }
 {
     let mut i: usize = 0;
     while i < count {
@@ -111,100 +116,98 @@ fn put_marks(jobs: [Job; MAX_TASKS], keeps: [bool; MAX_TASKS], count: usize, mar
     }
 }
 
-// The plan of nested jobs whose mandatory parts fit, into lists that are long enough. They stand outermost first at the first `count` places.
-fn put_nested(
+// The position of the first job in the order of its kind whose mandatory ticks, with those of the jobs before it, can't be met, and the count where there
+// is none. The jobs stand last first at the first `count` places, here and below.
+fn first_unmet(jobs: [Job; MAX_TASKS], count: usize, nested: bool) -> usize
+    requires { ⌜ HeldJobs nested jobs count ⌝ }
+    ensures { λ r. ⌜ r ≡ unmetBy nested count (jobsIn jobs count) ⌝ }
+{
+    if nested {
+        return first_exceeding(jobs, count);
+    }
+    sequencing::first_late(jobs, count)
+}
+
+// The keep list that is taken of jobs whose mandatory parts fit.
+fn choose(jobs: [Job; MAX_TASKS], count: usize, nested: bool) -> Choice
+    requires { ⌜ HeldJobs nested jobs count ⌝ }
+    requires { ⌜ fitsBy nested (jobsIn jobs count) (keepNone (jobsIn jobs count)) ≡ true ⌝ }
+    ensures { λ r. ⌜ ChosenFor (chosenBy nested) (jobsIn jobs count) (keepsIn (r .keeps) count) (r .kept) (r .discarded) ⌝ }
+{
+    if nested {
+        return choosing::choose(jobs, count);
+    }
+    sequencing::choose(jobs, count)
+}
+
+// The runs of jobs under a keep list that fits, put by start into three lent columns that are long enough; what stands beyond them is kept. The number of
+// runs is returned.
+fn place(
     jobs: [Job; MAX_TASKS],
     count: usize,
+    nested: bool,
+    keeps: [bool; MAX_TASKS],
+    starts: &mut [u32],
+    ends: &mut [u32],
+    tasks: &mut [u32],
+) -> usize
+    requires { ⌜ HeldJobs nested jobs count ⌝ }
+    requires { ⌜ fitsBy nested (jobsIn jobs count) (keepsIn keeps count) ≡ true ⌝ }
+    requires { ⌜ RunsRoom count (now starts) (now ends) (now tasks) ⌝ }
+    ensures { λ r. ⌜ r ≡ length (runsBy nested (jobsIn jobs count) (keepsIn keeps count)) ⌝ }
+    ensures { λ _. ⌜ RunsPut (runsBy nested (jobsIn jobs count) (keepsIn keeps count)) starts ends tasks ⌝ }
+{
+    if nested {
+        return placing::place(jobs, count, keeps, starts, ends, tasks);
+    }
+    sequencing::place(jobs, count, keeps, starts, ends, tasks)
+}
+
+// The plan of jobs whose mandatory parts fit, into lists that are long enough.
+fn put_plan(
+    jobs: [Job; MAX_TASKS],
+    count: usize,
+    nested: bool,
     marks: &mut [u8],
     starts: &mut [u32],
     ends: &mut [u32],
     tasks: &mut [u32],
 ) -> Planned
-    requires { ⌜ HeldJobs true jobs count ⌝ }
-    requires { ⌜ fitsBy true (firstPlaces noJob jobs count) (keepNone (firstPlaces noJob jobs count)) ≡ true ⌝ }
+    requires { ⌜ HeldJobs nested jobs count ⌝ }
+    requires { ⌜ fitsBy nested (jobsIn jobs count) (keepNone (jobsIn jobs count)) ≡ true ⌝ }
     requires { ⌜ shortLists count (lent (now marks) (now starts) (now ends) (now tasks)) ≡ false ⌝ }
-    ensures { λ r. ⌜ r ≡ madeBy true (firstPlaces noJob jobs count) ⌝ }
-    ensures { λ r. ⌜ lent (now (marks .exit)) (now (starts .exit)) (now (ends .exit)) (now (tasks .exit))
-        ≡ writtenBy true count (firstPlaces noJob jobs count) (lent (now (marks .entry)) (now (starts .entry)) (now (ends .entry)) (now (tasks .entry))) ⌝ }
+    ensures { λ r. ⌜ r ≡ madeBy nested (jobsIn jobs count) ⌝ }
+    ensures { λ _. ⌜ lentAfter marks starts ends tasks ≡ writtenBy nested count (jobsIn jobs count) (lentBefore marks starts ends tasks) ⌝ }
 {
-    let choice = choosing::choose(jobs, count);
+    let choice = choose(jobs, count, nested);
     let keeps = choice.keeps;
     put_marks(jobs, keeps, count, marks);
-    let runs = placing::place(jobs, count, keeps, starts, ends, tasks);
+    let runs = place(jobs, count, nested, keeps, starts, ends, tasks);
     planned(choice.kept, choice.discarded, runs)
 }
 
-// Planning nested jobs: 8, then 9, then the plan. They stand outermost first at the first `count` places.
-fn plan_nested(
+// Planning jobs of a kind: 8, then 9, then the plan.
+fn plan_jobs(
     jobs: [Job; MAX_TASKS],
     count: usize,
+    nested: bool,
     marks: &mut [u8],
     starts: &mut [u32],
     ends: &mut [u32],
     tasks: &mut [u32],
 ) -> Planned
-    requires { ⌜ HeldJobs true jobs count ⌝ }
-    ensures { λ r. ⌜ r ≡ replyBy true count (firstPlaces noJob jobs count)
-        (lent (now (marks .entry)) (now (starts .entry)) (now (ends .entry)) (now (tasks .entry))) ⌝ }
-    ensures { λ r. ⌜ lent (now (marks .exit)) (now (starts .exit)) (now (ends .exit)) (now (tasks .exit))
-        ≡ afterBy true count (firstPlaces noJob jobs count) r (lent (now (marks .entry)) (now (starts .entry)) (now (ends .entry)) (now (tasks .entry))) ⌝ }
+    requires { ⌜ HeldJobs nested jobs count ⌝ }
+    ensures { λ r. ⌜ r ≡ replyBy nested count (jobsIn jobs count) (lentBefore marks starts ends tasks) ⌝ }
+    ensures { λ r. ⌜ lentAfter marks starts ends tasks ≡ afterBy nested count (jobsIn jobs count) r (lentBefore marks starts ends tasks) ⌝ }
 {
-    let unmet = first_exceeding(jobs, count);
+    let unmet = first_unmet(jobs, count, nested);
     if unmet < count {
         return declined(8, unmet);
     }
     if too_short(count, marks.len(), starts.len(), ends.len(), tasks.len()) {
         return declined(9, 0);
     }
-    put_nested(jobs, count, marks, starts, ends, tasks)
-}
-
-// The plan of similar jobs whose mandatory parts fit, into lists that are long enough. They stand last first at the first `count` places.
-fn put_similar(
-    jobs: [Job; MAX_TASKS],
-    count: usize,
-    marks: &mut [u8],
-    starts: &mut [u32],
-    ends: &mut [u32],
-    tasks: &mut [u32],
-) -> Planned
-    requires { ⌜ HeldJobs false jobs count ⌝ }
-    requires { ⌜ fitsBy false (firstPlaces noJob jobs count) (keepNone (firstPlaces noJob jobs count)) ≡ true ⌝ }
-    requires { ⌜ shortLists count (lent (now marks) (now starts) (now ends) (now tasks)) ≡ false ⌝ }
-    ensures { λ r. ⌜ r ≡ madeBy false (firstPlaces noJob jobs count) ⌝ }
-    ensures { λ r. ⌜ lent (now (marks .exit)) (now (starts .exit)) (now (ends .exit)) (now (tasks .exit))
-        ≡ writtenBy false count (firstPlaces noJob jobs count) (lent (now (marks .entry)) (now (starts .entry)) (now (ends .entry)) (now (tasks .entry))) ⌝ }
-{
-    let choice = sequencing::choose(jobs, count);
-    let keeps = choice.keeps;
-    put_marks(jobs, keeps, count, marks);
-    let runs = sequencing::place(jobs, count, keeps, starts, ends, tasks);
-    planned(choice.kept, choice.discarded, runs)
-}
-
-// Planning similar jobs: 8, then 9, then the plan. They stand last first at the first `count` places.
-fn plan_similar(
-    jobs: [Job; MAX_TASKS],
-    count: usize,
-    marks: &mut [u8],
-    starts: &mut [u32],
-    ends: &mut [u32],
-    tasks: &mut [u32],
-) -> Planned
-    requires { ⌜ HeldJobs false jobs count ⌝ }
-    ensures { λ r. ⌜ r ≡ replyBy false count (firstPlaces noJob jobs count)
-        (lent (now (marks .entry)) (now (starts .entry)) (now (ends .entry)) (now (tasks .entry))) ⌝ }
-    ensures { λ r. ⌜ lent (now (marks .exit)) (now (starts .exit)) (now (ends .exit)) (now (tasks .exit))
-        ≡ afterBy false count (firstPlaces noJob jobs count) r (lent (now (marks .entry)) (now (starts .entry)) (now (ends .entry)) (now (tasks .entry))) ⌝ }
-{
-    let late = sequencing::first_late(jobs, count);
-    if late < count {
-        return declined(8, late);
-    }
-    if too_short(count, marks.len(), starts.len(), ends.len(), tasks.len()) {
-        return declined(9, 0);
-    }
-    put_similar(jobs, count, marks, starts, ends, tasks)
+    put_plan(jobs, count, nested, marks, starts, ends, tasks)
 }
 
 // Planning the table of an accepted file at a launch tick, by its kind and the keys of its order: 14 first.
@@ -221,19 +224,16 @@ fn plan_table(
     requires { ⌜ Legal table ⌝ }
     requires { ⌜ nested ≡ isNested table ⌝ }
     requires { ⌜ KeysHeld (isNested table) table (table .count) keys ⌝ }
-    ensures { λ r. ⌜ r ≡ planTable launch table (lent (now (marks .entry)) (now (starts .entry)) (now (ends .entry)) (now (tasks .entry))) ⌝ }
-    ensures { λ r. ⌜ lent (now (marks .exit)) (now (starts .exit)) (now (ends .exit)) (now (tasks .exit))
-        ≡ listsAfter launch table r (lent (now (marks .entry)) (now (starts .entry)) (now (ends .entry)) (now (tasks .entry))) ⌝ }
+    ensures { λ r. ⌜ r ≡ planTable launch table (lentBefore marks starts ends tasks) ⌝ }
+    ensures { λ r. ⌜ lentAfter marks starts ends tasks
+        ≡ listsAfter launch table r (lentBefore marks starts ends tasks) ⌝ }
 {
     if clock::bad_launch(launch) {
         return declined(14, 0);
     }
     let count = table.count as usize;
     let jobs = ordering::jobs_last_first(table, launch, keys);
-    if nested {
-        return plan_nested(jobs, count, marks, starts, ends, tasks);
-    }
-    plan_similar(jobs, count, marks, starts, ends, tasks)
+    plan_jobs(jobs, count, nested, marks, starts, ends, tasks)
 }
 
 // A reply of planning with the task count of the table that was read, which is 0 where reading refuses.
@@ -261,20 +261,20 @@ pub fn plan_counted(
     ends: &mut [u32],
     tasks: &mut [u32],
 ) -> Counted
-    ensures { λ r. ⌜ r .count ≡ reading (now (file .entry)) .table .count ⌝ }
+    ensures { λ r. ⌜ r .count ≡ readReply (now (file .entry)) .table .count ⌝ }
     ensures { λ r. ⌜ r .reply
-        ≡ planReply launch (now (file .entry)) (lent (now (marks .entry)) (now (starts .entry)) (now (ends .entry)) (now (tasks .entry))) ⌝ }
-    ensures { λ r. ⌜ lent (now (marks .exit)) (now (starts .exit)) (now (ends .exit)) (now (tasks .exit))
-        ≡ listsAfter launch (tableIn (now (file .entry))) (r .reply) (lent (now (marks .entry)) (now (starts .entry)) (now (ends .entry)) (now (tasks .entry))) ⌝ }
+        ≡ planReply launch (now (file .entry)) (lentBefore marks starts ends tasks) ⌝ }
+    ensures { λ r. ⌜ lentAfter marks starts ends tasks
+        ≡ listsAfter launch (tableIn (now (file .entry))) (r .reply) (lentBefore marks starts ends tasks) ⌝ }
 {
-    let read = reading::read_forward(file);
+    let read = reading::read_any_kind(file);
     let table = read.table;
     let answer = read.answer;
     let Answer::Accepted = answer else {
         return refused(answer);
     };
     let kind = ordering::keys_of_kind(table);
-    if !kind.served {
+    if !kind.accepted {
         return refused(table.window_answer());
     }
     let keys = kind.keys;
@@ -295,23 +295,23 @@ pub fn plan(
     ends: &mut [u32],
     tasks: &mut [u32],
 ) -> Planned
-    ensures reply { λ r. ⌜ r ≡ planReply launch (now (file .entry)) (lent (now (marks .entry)) (now (starts .entry)) (now (ends .entry)) (now (tasks .entry))) ⌝ }
-    ensures lists_after { λ r. ⌜ lent (now (marks .exit)) (now (starts .exit)) (now (ends .exit)) (now (tasks .exit))
-        ≡ listsAfter launch (tableIn (now (file .entry))) r (lent (now (marks .entry)) (now (starts .entry)) (now (ends .entry)) (now (tasks .entry))) ⌝ }
+    ensures reply { λ r. ⌜ r ≡ planReply launch (now (file .entry)) (lentBefore marks starts ends tasks) ⌝ }
+    ensures lists_after { λ r. ⌜ lentAfter marks starts ends tasks
+        ≡ listsAfter launch (tableIn (now (file .entry))) r (lentBefore marks starts ends tasks) ⌝ }
     ensures demand_2_refusal { λ r. ⌜ EightExactly launch (now (file .entry)) r ⌝ }
     ensures demand_2_judge { λ r. ⌜ JudgeAccepts launch (now (file .entry)) r
-        (lent (now (marks .exit)) (now (starts .exit)) (now (ends .exit)) (now (tasks .exit))) ⌝ }
+        (lentAfter marks starts ends tasks) ⌝ }
     ensures demand_3 { λ r. ⌜ PlannedOptimal launch (now (file .entry)) r
-        (lent (now (marks .exit)) (now (starts .exit)) (now (ends .exit)) (now (tasks .exit))) ⌝ }
+        (lentAfter marks starts ends tasks) ⌝ }
     ensures by_rules { λ r. ⌜ PlannedByRules launch (now (file .entry)) r
-        (lent (now (marks .exit)) (now (starts .exit)) (now (ends .exit)) (now (tasks .exit))) ⌝ }
+        (lentAfter marks starts ends tasks) ⌝ }
     ensures eight_first { λ r. ⌜ EightFirst launch (now (file .entry)) r ⌝ }
     ensures earlier_at_0 { λ r. ⌜ EarlierAtZero launch (now (file .entry)) r
-        (lent (now (marks .entry)) (now (starts .entry)) (now (ends .entry)) (now (tasks .entry)))
-        (lent (now (marks .exit)) (now (starts .exit)) (now (ends .exit)) (now (tasks .exit))) ⌝ }
+        (lentBefore marks starts ends tasks)
+        (lentAfter marks starts ends tasks) ⌝ }
     ensures later_by_launch { λ r. ⌜ LaterByLaunch launch (now (file .entry)) r
-        (lent (now (marks .entry)) (now (starts .entry)) (now (ends .entry)) (now (tasks .entry)))
-        (lent (now (marks .exit)) (now (starts .exit)) (now (ends .exit)) (now (tasks .exit))) ⌝ }
+        (lentBefore marks starts ends tasks)
+        (lentAfter marks starts ends tasks) ⌝ }
 {
     let counted = plan_counted(file, launch, marks, starts, ends, tasks);
     let reply = counted.reply;

@@ -1,7 +1,7 @@
 // What the judge says of a plan.
-ghost use mathlib.Core.Path.{_≡_};
 ghost use Prim.Native.Nat.{_≤_};
 ghost use lib.ListN.{length};
+ghost use Rattle.schedule.specs.LentRuns.{OneLength};
 use plans::Planned;
 use schedule::Judged;
 
@@ -23,7 +23,7 @@ pub fn agrees(
     tasks: &[u32],
 ) -> bool
     requires { ⌜ count ≤ length (now marks) ⌝ }
-    requires { ⌜ (length (now starts) ≡ length (now ends)) × (length (now starts) ≡ length (now tasks)) ⌝ }
+    requires { ⌜ OneLength starts ends tasks ⌝ }
 {
     let runs = reply.runs;
     if reply.number != 0 {

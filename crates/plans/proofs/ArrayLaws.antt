@@ -8,9 +8,10 @@ use lib.ListN.{length, getD, drop}
 use borrow.Author.Tests.{le-ltb, ltb-false, not-false}
 use Rattle.base.specs.Limits.{maxLaunch}
 use Rattle.base.specs.Tests.{or}
-use Rattle.base.specs.Places.{places, firstPlaces}
+use Rattle.base.specs.Places.{places}
+use Rattle.base.specs.Arrays.{firstPlaces, Distinct}
 use Rattle.base.specs.Lent.{writtenFront}
-use Rattle.base.specs.Members.{All, Distinct}
+use Rattle.base.specs.Members.{All}
 use Rattle.base.proofs.TestLaws.{or-left, or-right}
 use Rattle.base.proofs.MemberLaws.{all-places}
 use Rattle.base.proofs.PlaceLaws.{places-length}
@@ -20,15 +21,16 @@ use Rattle.table.specs.Writing.{Legal}
 use Rattle.table.proofs.FileLaws.{legal-count}
 use Rattle.schedule.specs.declared.Job.{Job}
 use Rattle.schedule.specs.declared.Run.{Run}
-use Rattle.schedule.specs.Jobs.{noJob, Bounded}
+use Rattle.schedule.specs.JobArrays.{noJob, Bounded}
 use Rattle.schedule.proofs.JudgeLaws.{job-position}
 use Rattle.choice.specs.Choice.{keepNone, kept, discarded}
 use Rattle.placement.specs.Chains.{positions}
 use Rattle.orders.specs.KindOrder.{jobsLastFirst}
 use Rattle.orders.proofs.OrderLaws.{any-jobs, jobs-bounded}
-use Rattle.plans.specs.Planning.{unmetBy, fitsBy, chosenAs, runsBy, tooShort, markAt, marksBy, planRunsBy, planMade, madeBy}
+use Rattle.plans.specs.Planning.{unmetBy, chosenBy, runsBy, tooShort, markAt, marksBy, planRunsBy, planMade, madeBy}
+use Rattle.plans.specs.PlanParts.{fitsBy}
 use Rattle.plans.specs.KindJobs.{HeldJobs}
-use Rattle.plans.proofs.JobPlans.{distinct-by, unmet-test, chosen-by}
+use Rattle.plans.proofs.JobPlans.{distinct-by, unmet-test, chosen-meets-by}
 use Rattle.plans.proofs.TableJobs.{kind-jobs}
 use Rattle.plans.proofs.PlanLaws.{jobs-below}
 
@@ -80,16 +82,16 @@ module _ (nested : Bool) (jobs : List Job) (n : ℕ) (held : HeldJobs nested job
 
   -- An array that holds their keep list.
   module _ (none : fitsBy nested (firstPlaces noJob jobs n) (keepNone (firstPlaces noJob jobs n)) ≡ true) (keeps : List Bool)
-      (list : firstPlaces false keeps n ≡ chosenAs nested (firstPlaces noJob jobs n)) where
+      (list : firstPlaces false keeps n ≡ chosenBy nested (firstPlaces noJob jobs n)) where
     -- it fits
     pub array-fits : fitsBy nested (firstPlaces noJob jobs n) (firstPlaces false keeps n) ≡ true
-    array-fits = rw list (chosen-by nested (firstPlaces noJob jobs n) none)
+    array-fits = rw list (chosen-meets-by nested (firstPlaces noJob jobs n) none .fit)
 
     -- the marks put
     pub array-marks : (lent : List ℕ)
         → places (markAt (firstPlaces noJob jobs n) (firstPlaces false keeps n)) n ++ drop n lent ≡ writtenFront (marksBy nested n (firstPlaces noJob jobs n)) lent
     unfolding marksBy
-    array-marks lent = rw (list, places-length (markAt (firstPlaces noJob jobs n) (chosenAs nested (firstPlaces noJob jobs n))) n) refl
+    array-marks lent = rw (list, places-length (markAt (firstPlaces noJob jobs n) (chosenBy nested (firstPlaces noJob jobs n))) n) refl
 
     -- a column of the runs put
     pub array-column : (part : Run → ℕ) (lent : List ℕ)
@@ -100,8 +102,8 @@ module _ (nested : Bool) (jobs : List Job) (n : ℕ) (held : HeldJobs nested job
 
     -- the reply
     pub array-reply : (runs k d : ℕ) → runs ≡ length (runsBy nested (firstPlaces noJob jobs n) (firstPlaces false keeps n))
-        → k ≡ kept (firstPlaces noJob jobs n) (chosenAs nested (firstPlaces noJob jobs n))
-        → d ≡ discarded (firstPlaces noJob jobs n) (chosenAs nested (firstPlaces noJob jobs n))
+        → k ≡ kept (firstPlaces noJob jobs n) (chosenBy nested (firstPlaces noJob jobs n))
+        → d ≡ discarded (firstPlaces noJob jobs n) (chosenBy nested (firstPlaces noJob jobs n))
         → planMade k d runs ≡ madeBy nested (firstPlaces noJob jobs n)
     unfolding madeBy planRunsBy
     array-reply runs k d e f g = rw (e, f, g, list) refl

@@ -12,26 +12,27 @@ use Rattle.table.proofs.FileLaws.{legal-count}
 use Rattle.schedule.specs.declared.RunsAnswer.the-variants as checked
 use Rattle.schedule.specs.Ticks.{ticksOwned}
 use Rattle.schedule.specs.Runs.{tooMany, ownerOf}
-use Rattle.schedule.specs.RunCheck.{runsAnswer}
+use Rattle.schedule.specs.RunCheck.{checkAnswer}
 use Rattle.schedule.specs.BusyCount.{busyReply}
 use Rattle.schedule.proofs.CheckLaws.{ordered-accepted}
 use Rattle.schedule.proofs.BusyLaws.{sum-owned}
-use Rattle.plans.specs.Planning.{mandatoryFit, planRuns}
+use Rattle.plans.specs.Planning.{planRuns}
+use Rattle.plans.specs.PlanParts.{mandatoryFit}
 use Rattle.plans.proofs.PlanLaws.{plan-listed, plan-few}
 
 -- It has no more runs than a run list may have, none is empty, and none starts before the one before it ends. So a query of a plan is never
 -- refused, and where it answers that there is no run, there is none.
-pub plan-asked : (launch : ℕ) (t : Table) → Legal t → mandatoryFit launch t ≡ true → runsAnswer (planRuns launch t) ≡ checked.Accepted
+pub plan-checked : (launch : ℕ) (t : Table) → Legal t → mandatoryFit launch t ≡ true → checkAnswer (planRuns launch t) ≡ checked.Accepted
 unfolding tooMany
-plan-asked launch t legal fit =
+plan-checked launch t legal fit =
     let listed = plan-listed launch t legal fit in
     let few = le-ltb maxRuns (length (planRuns launch t)) (omega (arith, plan-few launch t legal fit, legal-count legal)) in
     ordered-accepted (planRuns launch t) few (listed .nonempty, listed .ordered)
 
 -- Nor is its busy count, which is the number of ticks of the interval that the plan's runs hold.
-pub plan-counted : (launch : ℕ) (t : Table) → Legal t → mandatoryFit launch t ≡ true
+pub plan-busy : (launch : ℕ) (t : Table) → Legal t → mandatoryFit launch t ≡ true
     → (a b : ℕ) → busyReply (planRuns launch t) a b ≡ record { number = 0; place = 0; ticks = ticksOwned (ownerOf (planRuns launch t)) a b }
 unfolding busyReply
-plan-counted launch t legal fit a b =
-    let accepted = plan-asked launch t legal fit in
+plan-busy launch t legal fit a b =
+    let accepted = plan-checked launch t legal fit in
     rw (accepted, sum-owned (planRuns launch t) accepted a b)

@@ -21,7 +21,7 @@ use Rattle.table.specs.Reading.{tableIn, readAnswer}
 use Rattle.schedule.specs.declared.Job.{Job}
 use Rattle.schedule.specs.Jobs.{jobOf, jobAt, jobsOf, windowTicks, workOf}
 use Rattle.schedule.specs.Ticks.{Owner}
-use Rattle.schedule.specs.Runnings.{got, Gets, Running}
+use Rattle.schedule.specs.Runnings.{got, Gets, Running, Whole}
 use Rattle.schedule.specs.Runs.{ownerOf}
 use Rattle.schedule.proofs.EmptyWindows.{empty-got, empty-gets, empty-running}
 use Rattle.plans.specs.Planning.{LentLists, planMarks, planRuns, planReply}
@@ -36,7 +36,7 @@ unfolding jobAt jobOf jobsOf
 empty-refused launch file lists accepted low k l e m =
     plan-impossible launch file lists accepted low .1 (
     λ owner r.
-    let gets = all-places (Gets owner) (jobAt launch (tableIn file)) (tableIn file .count) .0 (r .gets) k l in
+    let gets = all-places (Gets Whole owner) (jobAt launch (tableIn file)) (tableIn file .count) .0 (r .gets) k l in
     let none = empty-gets owner (jobAt launch (tableIn file) k) e .0 gets in
     omega arith
     )

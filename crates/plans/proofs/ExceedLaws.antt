@@ -15,7 +15,8 @@ use Rattle.schedule.specs.declared.Job.{Job}
 use Rattle.schedule.specs.Jobs.{windowTicks, workWith}
 use Rattle.base.specs.Members.{All}
 use Rattle.base.proofs.MemberLaws.{all-reverse}
-use Rattle.choice.specs.Choice.{total, worksFit, worksOf, totalWork, fits, keepNone}
+use Rattle.choice.specs.Choice.{total, worksFit, worksOf, fits, keepNone}
+use Rattle.choice.specs.KeepLists.{totalWork}
 use Rattle.choice.specs.Programme.{mandatorySum}
 use Rattle.plans.specs.Planning.{exceedingAfter}
 

@@ -18,17 +18,18 @@ use Rattle.base.proofs.PlaceLaws.{places-length, places-at}
 use Rattle.table.specs.declared.Table.{Table}
 use Rattle.table.specs.Kinds.{isNested}
 use Rattle.schedule.specs.Jobs.{jobOf, jobAt, workOf, counts}
-use Rattle.schedule.specs.Ticks.{one}
-use Rattle.schedule.specs.Judging.{discardedCount}
+use Rattle.schedule.specs.Ticks.{oneIf}
+use Rattle.schedule.specs.Judging.{discardedCount, countMarked}
 use Rattle.schedule.proofs.JudgeLaws.{job-position}
-use Rattle.choice.specs.Choice.{worksOf, keptTicks, discardedWorth, discarded}
+use Rattle.choice.specs.Choice.{worksOf, keptWorth, keptTicks, discardedWorth, discarded}
 use Rattle.choice.proofs.FitLaws.{discarded-cons}
 use Rattle.placement.proofs.PlanLaws.{SameMarks}
 use Rattle.orders.specs.KindOrder.{kindBefore, orderLastFirst, jobsLastFirst}
 use Rattle.orders.proofs.SortLaws.{order-length, sumOver, sum-order, count-order}
 use Rattle.orders.proofs.OrderLaws.{jobs-length, jobs-distinct}
 use Rattle.orders.proofs.BeforeLaws.{all-order, order-all}
-use Rattle.plans.specs.Planning.{fitsBy, markAt}
+use Rattle.plans.specs.Planning.{markAt}
+use Rattle.plans.specs.PlanParts.{fitsBy}
 use Rattle.plans.specs.Rules.{KeepList, WorksFitBy, Fitting, keptTicksOf}
 use Rattle.plans.proofs.MarkLaws.{mark-low, marks-same}
 use Rattle.plans.proofs.PlanLaws.{jobs-below}
@@ -89,10 +90,10 @@ module _ (launch : ℕ) (t : Table) where
   kept-same marks [] (keep ∷ keeps) s = absurd s
   kept-same marks (j ∷ js) [] s = absurd s
   kept-same marks (j ∷ js) (keep ∷ keeps) s =
-      let mark : getD marks j 0 ≡ one keep = rw (job-position launch t j) at (s .0) in
+      let mark : getD marks j 0 ≡ oneIf keep = rw (job-position launch t j) at (s .0) in
       ap₂ (λ (x : Bool) (xs : List Bool). x ∷ xs) (ap (λ (m : ℕ). eqb m 1) mark ∙ back keep) (kept-same marks js keeps (s .1))
     where
-      back : (keep : Bool) → eqb (one keep) 1 ≡ keep
+      back : (keep : Bool) → eqb (oneIf keep) 1 ≡ keep
       back true = refl
       back false = refl
 
@@ -122,12 +123,12 @@ module _ (launch : ℕ) (t : Table) where
 
     ticks-by : (js : List ℕ) → keptTicks (map (jobAt launch t) js) (map (keepAt marks) js)
         ≡ sumOver (λ k. pick (keepAt marks k) (jobAt launch t k .optional) 0) js
-    unfolding keptTicks sumOver
+    unfolding keptWorth sumOver
     ticks-by [] = refl
     ticks-by (j ∷ js) = ap (λ (x : ℕ). pick (keepAt marks j) (jobAt launch t j .optional) 0 + x) (ticks-by js)
 
     discarded-by : (js : List ℕ) → All (λ k. getD marks k 0 ≤ 1) js
-        → discarded (map (jobAt launch t) js) (map (keepAt marks) js) ≡ sumOver (λ k. one (and (counts (jobAt launch t k)) (eqb (getD marks k 0) 0))) js
+        → discarded (map (jobAt launch t) js) (map (keepAt marks) js) ≡ sumOver (λ k. oneIf (and (counts (jobAt launch t k)) (eqb (getD marks k 0) 0))) js
     unfolding sumOver discardedWorth
     discarded-by [] l = refl
     discarded-by (j ∷ js) l =
@@ -157,7 +158,7 @@ module _ (launch : ℕ) (t : Table) where
 
       -- and discards as many optional parts.
       pub keeps-discarded : discarded (jobsLastFirst launch t) (keepsOf t marks) ≡ discardedCount t marks
-      unfolding jobsLastFirst discardedCount orderLastFirst jobAt jobOf
+      unfolding jobsLastFirst countMarked orderLastFirst jobAt jobOf
       keeps-discarded =
           discarded-by (orderLastFirst t) (all-order t (λ k. getD marks k 0 ≤ 1) (p .low))
           ∙ count-order (kindBefore t) (λ k. and (counts (jobAt launch t k)) (eqb (getD marks k 0) 0)) (t .count)

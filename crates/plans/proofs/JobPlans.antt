@@ -1,6 +1,6 @@
 -- The plan of jobs of either kind: what is known of fitting lists, of the chosen list and of its runs, in one statement for both.
 use Prim.Native.Nat.{ℕ, _-_, _*_, _≤_, _<_}
-use mathlib.Core.Path.{_≡_, refl}
+use mathlib.Core.Path.{_≡_, refl, sym}
 use mathlib.Core.Logic.{_⊎_, _↔_}
 use mathlib.Core.List.{List}
 use mathlib.Core.Bool.{Bool, true, false, not}
@@ -8,27 +8,37 @@ use native.Mathlib.Omega.{arith}
 use lib.Dec.{ltb}
 use lib.ListN.{length}
 use Rattle.base.proofs.TestLaws.{both-absurd}
-use Rattle.base.specs.Members.{All, Distinct}
+use Rattle.base.specs.Members.{All}
+use Rattle.base.specs.Arrays.{Distinct}
 use Rattle.schedule.specs.declared.Job.{Job}
 use Rattle.schedule.specs.Ticks.{Owner}
 use Rattle.schedule.specs.Runnings.{Running, discards}
 use Rattle.schedule.specs.Runs.{Together}
-use Rattle.choice.specs.Choice.{keepNone, keptTicks, KeepsFirst, countOne, discarded, ZeroKept}
+use Rattle.choice.specs.Choice.{keepNone, choiceKey, keptTicks, countOne, discarded}
+use Rattle.choice.specs.KeepLists.{KeepsFirst, ZeroKept}
 use Rattle.choice.proofs.FitLaws.{fits-length, none-fits}
-use Rattle.choice.proofs.ChoiceLaws.{chosen-meets, meets-chosen, chosen-zero-kept}
+use Rattle.choice.proofs.LexLaws.{LexAtMost}
+use Rattle.choice.proofs.TieLaws.{marks-least, atMost-first}
+use Rattle.choice.proofs.ChoiceLaws as nests
+use Rattle.choice.proofs.ChoiceLaws.{chosen-zero-kept}
 use Rattle.placement.specs.Chains.{positions}
 use Rattle.placement.specs.Placing.{outermostDeadline}
-use Rattle.placement.proofs.Best as nests
+use Rattle.placement.proofs.Necessity.{marksOf, running-fits, running-discards}
+use Rattle.placement.proofs.PlacedRunnings.{placed-running, placed-discards}
 use Rattle.placement.proofs.RunOrder.{Listed, placed-listed, placed-few}
 use Rattle.placement.proofs.FilledPlaces.{chain-deadlines}
 use Rattle.placement.proofs.PlanLaws.{SameMarks, placed-together}
 use Rattle.sequence.proofs.InOrderLaws.{order-length, none-earliest}
-use Rattle.sequence.proofs.OrderChoiceLaws.{order-meets, meets-order, order-zero-kept}
+use Rattle.sequence.proofs.OrderChoiceLaws as orders
+use Rattle.sequence.proofs.OrderChoiceLaws.{order-zero-kept}
+use Rattle.sequence.proofs.OrderNecessity.{running-in-order}
 use Rattle.sequence.proofs.OrderSufficiency.{order-running, order-listed}
 use Rattle.sequence.proofs.RunListLaws.{order-few}
-use Rattle.sequence.proofs.OrderBest as orders
+use Rattle.sequence.proofs.OrderRunnings.{order-discards, order-together}
 use Rattle.sequence.proofs.LateLaws.{late-test}
-use Rattle.plans.specs.Planning.{unmetBy, fitsBy, chosenAs, placedBy, runsBy}
+use Rattle.sequence.specs.OrderChoice.{choiceKeyInOrder}
+use Rattle.plans.specs.Planning.{unmetBy, chosenBy, runsBy}
+use Rattle.plans.specs.PlanParts.{fitsBy, placedBy}
 use Rattle.plans.specs.KindJobs.{JobsOfKind}
 use Rattle.plans.proofs.ExceedLaws.{exceeding-test}
 
@@ -49,12 +59,12 @@ unfolding fitsBy
 none-by true jobs keeps e = none-fits jobs keeps e
 none-by false jobs keeps e = none-earliest jobs keeps e .0
 
--- a running of the jobs exists exactly where the mandatory parts alone fit
-pub exists-by : (nested : Bool) (jobs : List Job) → JobsOfKind nested jobs
-    → ((owner : Owner) × Running jobs owner) ↔ (fitsBy nested jobs (keepNone jobs) ≡ true)
+-- the marks of every running fit
+pub running-fits-by : (nested : Bool) (jobs : List Job) (owner : Owner) → JobsOfKind nested jobs → Running jobs owner
+    → fitsBy nested jobs (marksOf jobs owner) ≡ true
 unfolding fitsBy
-exists-by true jobs c = nests.running-exists jobs c
-exists-by false jobs s = orders.running-exists jobs s
+running-fits-by true jobs owner c r = running-fits jobs owner c r
+running-fits-by false jobs owner s r = running-in-order jobs owner s r
 
 -- the search for an unmet job finds one exactly where they do not fit
 pub unmet-test : (nested : Bool) (n : ℕ) (jobs : List Job) → All (λ job. job .position < n) jobs
@@ -82,40 +92,35 @@ pub together-by : (nested : Bool) (jobs : List Job) (keeps : List Bool) (marks :
     → SameMarks jobs keeps marks → Together jobs marks (runsBy nested jobs keeps)
 unfolding fitsBy runsBy
 together-by true jobs keeps marks c e m = placed-together jobs keeps marks c e m (outermostDeadline jobs) (chain-deadlines jobs c)
-together-by false jobs keeps marks s e m = orders.order-together jobs keeps marks s e m
+together-by false jobs keeps marks s e m = order-together jobs keeps marks s e m
 
 -- and the placing is a running
 pub running-by : (nested : Bool) (jobs : List Job) (keeps : List Bool) → JobsOfKind nested jobs → fitsBy nested jobs keeps ≡ true
     → Running jobs (placedBy nested jobs keeps)
 unfolding fitsBy placedBy
-running-by true jobs keeps c e = nests.placed-running jobs keeps c e
+running-by true jobs keeps c e = placed-running jobs keeps c e
 running-by false jobs keeps s e = order-running jobs keeps s e
 
 -- that discards what the list discards.
 pub discards-by : (nested : Bool) (jobs : List Job) (keeps : List Bool) → JobsOfKind nested jobs → fitsBy nested jobs keeps ≡ true
     → discards jobs (placedBy nested jobs keeps) ≡ discarded jobs keeps
 unfolding fitsBy placedBy
-discards-by true jobs keeps c e = nests.placed-discards jobs keeps c e
-discards-by false jobs keeps s e = orders.order-discards jobs keeps s e
+discards-by true jobs keeps c e = placed-discards jobs keeps c e
+discards-by false jobs keeps s e = order-discards jobs keeps s e
 
--- The chosen list, where the mandatory parts alone fit: it fits,
-pub chosen-by : (nested : Bool) (jobs : List Job) → fitsBy nested jobs (keepNone jobs) ≡ true → fitsBy nested jobs (chosenAs nested jobs) ≡ true
-unfolding fitsBy chosenAs
-chosen-by true jobs none = chosen-meets countOne jobs none .fit
-chosen-by false jobs none = order-meets countOne jobs none .fit
+-- So a running of the jobs exists exactly where the mandatory parts alone fit.
+pub exists-by : (nested : Bool) (jobs : List Job) → JobsOfKind nested jobs
+    → ((owner : Owner) × Running jobs owner) ↔ (fitsBy nested jobs (keepNone jobs) ≡ true)
+exists-by nested jobs k = (
+  λ r. none-by nested jobs (marksOf jobs (r .0)) (running-fits-by nested jobs (r .0) k (r .1)),
+  λ e. (placedBy nested jobs (keepNone jobs), running-by nested jobs (keepNone jobs) k e),
+)
 
--- marks each optional part of 0 ticks as kept,
-pub zero-by : (nested : Bool) (jobs : List Job) → fitsBy nested jobs (keepNone jobs) ≡ true → ZeroKept jobs (chosenAs nested jobs)
-unfolding fitsBy chosenAs
+-- The chosen list, where the mandatory parts alone fit, marks each optional part of 0 ticks as kept.
+pub zero-by : (nested : Bool) (jobs : List Job) → fitsBy nested jobs (keepNone jobs) ≡ true → ZeroKept jobs (chosenBy nested jobs)
+unfolding fitsBy chosenBy
 zero-by true jobs none = chosen-zero-kept jobs none
 zero-by false jobs none = order-zero-kept jobs none
-
--- and every running of the jobs discards at least as many.
-pub least-by : (nested : Bool) (jobs : List Job) → JobsOfKind nested jobs → fitsBy nested jobs (keepNone jobs) ≡ true
-    → (owner : Owner) → Running jobs owner → discarded jobs (chosenAs nested jobs) ≤ discards jobs owner
-unfolding fitsBy chosenAs
-least-by true jobs c none = nests.chosen-least jobs c none
-least-by false jobs s none = orders.chosen-least jobs s none
 
 -- What the rules ask of the list that is taken: those of nested tables, or those of similar ones, which have no rule on kept ticks.
 pub record MeetsBy (nested : Bool) (jobs : List Job) (keeps : List Bool) : Type 0 where
@@ -127,36 +132,54 @@ pub record MeetsBy (nested : Bool) (jobs : List Job) (keeps : List Bool) : Type 
       → (nested ≡ true → keptTicks jobs other ≡ keptTicks jobs keeps) → (other ≡ keeps) ⊎ KeepsFirst keeps other
 
 -- The chosen list meets them,
-pub chosen-meets-by : (nested : Bool) (jobs : List Job) → fitsBy nested jobs (keepNone jobs) ≡ true → MeetsBy nested jobs (chosenAs nested jobs)
-unfolding fitsBy chosenAs
+pub chosen-meets-by : (nested : Bool) (jobs : List Job) → fitsBy nested jobs (keepNone jobs) ≡ true → MeetsBy nested jobs (chosenBy nested jobs)
+unfolding fitsBy chosenBy LexAtMost choiceKey choiceKeyInOrder
 chosen-meets-by true jobs none =
-    let m = chosen-meets countOne jobs none in
+    let b = nests.chosen-best countOne jobs none in
     record {
-      fit = m .fit;
-      leastDiscarded = m .leastDiscarded;
-      leastTicks = λ n other e d. m .leastTicks other e d;
-      last = λ other e d t. m .outermost other e d (t refl);
+      fit = b .fit;
+      leastDiscarded = λ other e. b .least other e .0;
+      leastTicks = λ n other e d. b .least other e .1 (sym d) .0;
+      last = λ other e d t.
+          atMost-first _ other (omega (arith, fits-length jobs _ (b .fit), fits-length jobs other e)) (b .least other e .1 (sym d) .1 (sym (t refl)));
     }
 chosen-meets-by false jobs none =
-    let m = order-meets countOne jobs none in
+    let b = orders.chosen-best countOne jobs none in
     record {
-      fit = m .fit;
-      leastDiscarded = m .leastDiscarded;
+      fit = b .fit;
+      leastDiscarded = λ other e. b .least other e .0;
       leastTicks = λ n other e d. both-absurd false n refl;
-      last = λ other e d t. m .last other e d;
+      last = λ other e d t.
+          atMost-first _ other (omega (arith, order-length jobs _ (b .fit), order-length jobs other e)) (b .least other e .1 (sym d));
     }
 
 -- and a list that meets them is the chosen one.
-pub meets-chosen-by : (nested : Bool) (jobs : List Job) (keeps : List Bool) → MeetsBy nested jobs keeps → keeps ≡ chosenAs nested jobs
-unfolding fitsBy chosenAs
+pub meets-chosen-by : (nested : Bool) (jobs : List Job) (keeps : List Bool) → MeetsBy nested jobs keeps → keeps ≡ chosenBy nested jobs
+unfolding fitsBy chosenBy LexAtMost choiceKey choiceKeyInOrder
 meets-chosen-by true jobs keeps m =
-    meets-chosen countOne jobs keeps
+    nests.best-unique countOne jobs keeps _
     (record {
       fit = m .fit;
-      leastDiscarded = m .leastDiscarded;
-      leastTicks = m .leastTicks refl;
-      outermost = λ other e d t. m .last other e d (λ n. t);
+      least = λ other e. (
+        m .leastDiscarded other e,
+        λ d. (m .leastTicks refl other e (sym d), λ c. marks-least keeps other (m .last other e (sym d) (λ n. sym c))),
+      );
     })
+    (nests.chosen-best countOne jobs (none-fits jobs keeps (m .fit)))
 meets-chosen-by false jobs keeps m =
-    meets-order countOne jobs keeps
-    (record { fit = m .fit; leastDiscarded = m .leastDiscarded; last = λ other e d. m .last other e d (λ n. both-absurd false n refl) })
+    orders.order-unique countOne jobs keeps _
+    (record {
+      fit = m .fit;
+      least = λ other e. (m .leastDiscarded other e, λ d. marks-least keeps other (m .last other e (sym d) (λ n. both-absurd false n refl)));
+    })
+    (orders.chosen-best countOne jobs (none-earliest jobs keeps (m .fit) .0))
+
+-- Every running of the jobs discards at least as many parts as the chosen list.
+pub least-by : (nested : Bool) (jobs : List Job) → JobsOfKind nested jobs → fitsBy nested jobs (keepNone jobs) ≡ true
+    → (owner : Owner) → Running jobs owner → discarded jobs (chosenBy nested jobs) ≤ discards jobs owner
+least-by nested jobs k none owner r =
+    omega (
+      arith,
+      chosen-meets-by nested jobs none .leastDiscarded (marksOf jobs owner) (running-fits-by nested jobs owner k r),
+      running-discards jobs owner r,
+    )

@@ -14,7 +14,8 @@ use Rattle.schedule.specs.Shifting.{laterRuns}
 use Rattle.orders.specs.KindOrder.{jobsLastFirst}
 use Rattle.orders.proofs.LaunchLaws.{jobs-launch, jobs-launch-0}
 use Rattle.plans.specs.declared.Planned.{Planned}
-use Rattle.plans.specs.Planning.{LentLists, afterBy, writtenBy, keepList, planMarks, planRuns, planOf, planTable, planReply, listsAfter}
+use Rattle.plans.specs.Planning.{LentLists, afterBy, writtenBy, planMarks, planRuns, planTable, planReply, listsAfter}
+use Rattle.plans.specs.PlanParts.{planOf, chosenMarks}
 use Rattle.plans.specs.Launch.{earlierJobs, earlierReply, earlierLists, EarlierAtZero, LaterByLaunch}
 use Rattle.plans.proofs.ShiftLaws.{plan-later, marks-later, runs-later, made-later, reply-later}
 use Rattle.plans.proofs.ReplyLaws.{Replied, runs-taken}
@@ -30,8 +31,8 @@ unfolding listsAfter earlierLists earlierJobs
 lists-launch-0 file reply lists = rw (jobs-launch-0 (tableIn file))
 
 -- The keep list is the same for every launch tick, and so are the marks;
-pub keeps-launch : (launch : ℕ) (t : Table) → keepList launch t ≡ keepList 0 t
-unfolding keepList
+pub keeps-launch : (launch : ℕ) (t : Table) → chosenMarks launch t ≡ chosenMarks 0 t
+unfolding chosenMarks
 keeps-launch launch t = rw (jobs-launch launch t) (plan-later (isNested t) launch (jobsLastFirst 0 t) .keeps)
 
 pub marks-launch : (launch : ℕ) (t : Table) → planMarks launch t ≡ planMarks 0 t
@@ -56,7 +57,7 @@ reply-launch launch file lists low =
 
 -- Two accepted launch ticks: the same reply and the same keep list.
 pub launches-agree : (a b : ℕ) (file : List ℕ) (lists : LentLists) → badLaunch a ≡ false → badLaunch b ≡ false
-    → (planReply a file lists ≡ planReply b file lists) × (keepList a (tableIn file) ≡ keepList b (tableIn file))
+    → (planReply a file lists ≡ planReply b file lists) × (chosenMarks a (tableIn file) ≡ chosenMarks b (tableIn file))
 launches-agree a b file lists low high =
     (reply-launch a file lists low ∙ sym (reply-launch b file lists high), keeps-launch a (tableIn file) ∙ sym (keeps-launch b (tableIn file)))
 

@@ -12,6 +12,7 @@ pub mod ExceedingFirst
 pub mod UnmetFirst
 pub mod EarlyTicks
 pub mod PlacingRules
+pub mod RulesSettle
 pub mod ReplyLaws
 pub mod ShiftLaws
 pub mod LaunchLaws

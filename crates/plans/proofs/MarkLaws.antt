@@ -11,8 +11,9 @@ use Rattle.base.specs.Places.{places}
 use Rattle.table.specs.declared.Table.{Table}
 use Rattle.schedule.specs.declared.Job.{Job}
 use Rattle.schedule.specs.Jobs.{jobAt, counts}
-use Rattle.schedule.specs.Ticks.{one}
-use Rattle.base.specs.Members.{All, Distinct}
+use Rattle.schedule.specs.Ticks.{oneIf}
+use Rattle.base.specs.Members.{All}
+use Rattle.base.specs.Arrays.{Distinct}
 use Rattle.schedule.proofs.JudgeLaws.{job-position}
 use Rattle.choice.specs.Choice.{keptWorth, kept}
 use Rattle.placement.specs.Chains.{positions}
@@ -30,13 +31,13 @@ mark-low [] keeps k = omega arith
 mark-low (job ∷ jobs) [] k = omega arith
 mark-low (job ∷ jobs) (keep ∷ keeps) k = low (eqb (job .position) k) keep (mark-low jobs keeps k)
   where
-    low : (b keep : Bool) {x : ℕ} → x < 2 → pick b (one keep) x < 2
+    low : (b keep : Bool) {x : ℕ} → x < 2 → pick b (oneIf keep) x < 2
     low true true h = omega arith
     low true false h = omega arith
     low false keep h = h
 
 -- numbers that say what the marks as numbers say, say what the marks say
-same-marks : (jobs : List Job) (keeps : List Bool) (marks : List ℕ) → SameNumbers jobs (map one keeps) marks → SameMarks jobs keeps marks
+same-marks : (jobs : List Job) (keeps : List Bool) (marks : List ℕ) → SameNumbers jobs (map oneIf keeps) marks → SameMarks jobs keeps marks
 same-marks [] [] marks s = tt
 same-marks [] (keep ∷ keeps) marks s = s
 same-marks (job ∷ jobs) [] marks s = s
@@ -46,10 +47,10 @@ same-marks (job ∷ jobs) (keep ∷ keeps) marks s = (s .0, same-marks jobs keep
 pub marks-same : (jobs : List Job) (keeps : List Bool) (n : ℕ) → length keeps ≡ length jobs → Distinct (positions jobs) → All (λ job. job .position < n) jobs
     → SameMarks jobs keeps (places (markAt jobs keeps) n)
 marks-same jobs keeps n l d h =
-    same-marks jobs keeps (places (markAt jobs keeps) n) (numbers-same jobs (map one keeps) n (length-map keeps one ∙ l) d h)
+    same-marks jobs keeps (places (markAt jobs keeps) n) (numbers-same jobs (map oneIf keeps) n (length-map keeps oneIf ∙ l) d h)
 
 -- what one job adds to the kept count, by its place in the keep list and by its mark
-kept-one : (counted keep : Bool) → pick keep (pick counted 1 0) 0 ≡ one (and counted (eqb (one keep) 1))
+kept-one : (counted keep : Bool) → pick keep (pick counted 1 0) 0 ≡ oneIf (and counted (eqb (oneIf keep) 1))
 kept-one true true = refl
 kept-one true false = refl
 kept-one false true = refl
@@ -57,16 +58,16 @@ kept-one false false = refl
 
 -- The kept count of a keep list is the sum over its positions by the marks.
 pub kept-marks : (launch : ℕ) (t : Table) (marks js : List ℕ) (keeps : List Bool) → SameMarks (map (jobAt launch t) js) keeps marks
-    → kept (map (jobAt launch t) js) keeps ≡ sumOver (λ k. one (and (counts (jobAt launch t k)) (eqb (getD marks k 0) 1))) js
+    → kept (map (jobAt launch t) js) keeps ≡ sumOver (λ k. oneIf (and (counts (jobAt launch t k)) (eqb (getD marks k 0) 1))) js
 unfolding keptWorth sumOver
 kept-marks launch t marks [] keeps s = refl
 kept-marks launch t marks (j ∷ js) [] s = absurd s
 kept-marks launch t marks (j ∷ js) (keep ∷ keeps) s =
-    let e : getD marks j 0 ≡ one keep = ap (λ (k : ℕ). getD marks k 0) (sym (job-position launch t j)) ∙ s .0 in
+    let e : getD marks j 0 ≡ oneIf keep = ap (λ (k : ℕ). getD marks k 0) (sym (job-position launch t j)) ∙ s .0 in
     rw e (omega (arith, kept-one (counts (jobAt launch t j)) keep, kept-marks launch t marks js keeps (s .1)))
 
 -- Marks that were put into a lent list one job after another, as numbers: at the end every position holds its mark.
 pub marked-end : (at : ℕ → Job) (keep : ℕ → Bool) (n : ℕ) (lent : List ℕ) (i : ℕ) (marks : List ℕ) → n ≤ i → n ≤ length lent
-    → Put at (λ k. one (keep k)) n lent i marks → marks ≡ places (markAt (places at n) (places keep n)) n ++ drop n lent
+    → Put at (λ k. oneIf (keep k)) n lent i marks → marks ≡ places (markAt (places at n) (places keep n)) n ++ drop n lent
 unfolding places
-marked-end at keep n lent i marks l room f = rw (map-places one keep 0 n) (put-end at (λ k. one (keep k)) n lent i marks l room f)
+marked-end at keep n lent i marks l room f = rw (map-places oneIf keep 0 n) (put-end at (λ k. oneIf (keep k)) n lent i marks l room f)

@@ -21,7 +21,7 @@ use Rattle.schedule.specs.declared.Run.{Run}
 use Rattle.schedule.specs.Jobs.{jobAt}
 use Rattle.schedule.specs.Ticks.{Owner}
 use Rattle.schedule.specs.Runs.{noRun, ownerOf}
-use Rattle.schedule.specs.Judging.{noneEmpty, followFrom, inOrder}
+use Rattle.schedule.specs.Judging.{noneEmpty, followFrom, eachFollows}
 use Rattle.schedule.proofs.RunLaws.{first-nonempty, rest-nonempty, first-follows, rest-follow}
 use Rattle.schedule.proofs.JudgeLaws.{job-position}
 use Rattle.choice.specs.Choice.{worksOf}
@@ -37,7 +37,8 @@ use Rattle.orders.specs.KindOrder.{kindBefore, orderLastFirst, jobsLastFirst}
 use Rattle.orders.proofs.SortLaws.{Sorted}
 use Rattle.orders.proofs.OrderLaws.{jobs-positions}
 use Rattle.orders.proofs.BeforeLaws.{kind-once, kind-falls, among-order}
-use Rattle.plans.specs.Planning.{fitsBy, placedBy, runsBy, planRunsBy, keepList, planRuns, mandatoryFit}
+use Rattle.plans.specs.Planning.{runsBy, planRunsBy, planRuns}
+use Rattle.plans.specs.PlanParts.{fitsBy, placedBy, chosenMarks, mandatoryFit}
 use Rattle.plans.specs.KindJobs.{JobsOfKind}
 use Rattle.plans.specs.Rules.{PlacedAs, LongestStretch, LongestRuns}
 use Rattle.plans.proofs.TableJobs.{kind-jobs}
@@ -166,16 +167,16 @@ placed-as launch false t keeps s e =
 module _ (launch : ℕ) (t : Table) (legal : Legal t) (none : mandatoryFit launch t ≡ true) where
   -- Its work is placed as the rules of its kind say.
   pub plan-placed : PlacedAs launch (isNested t) t (ownerOf (planRuns launch t))
-  plan-placed = rw (plan-owner launch t legal none) (placed-as launch (isNested t) t (keepList launch t) (kind-jobs launch t legal) (keeps-fit launch t legal none))
+  plan-placed = rw (plan-owner launch t legal none) (placed-as launch (isNested t) t (chosenMarks launch t) (kind-jobs launch t legal) (keeps-fit launch t legal none))
 
   -- its runs are longest stretches
-  plan-stretches : All (LongestStretch (placedBy (isNested t) (jobsLastFirst launch t) (keepList launch t))) (planRuns launch t)
-  unfolding planRuns planRunsBy keepList
-  plan-stretches = longest-by (isNested t) (jobsLastFirst launch t) (keepList launch t) (kind-jobs launch t legal) (keeps-fit launch t legal none)
+  plan-stretches : All (LongestStretch (placedBy (isNested t) (jobsLastFirst launch t) (chosenMarks launch t))) (planRuns launch t)
+  unfolding planRuns planRunsBy chosenMarks
+  plan-stretches = longest-by (isNested t) (jobsLastFirst launch t) (chosenMarks launch t) (kind-jobs launch t legal) (keeps-fit launch t legal none)
 
   -- Its runs are longest stretches, by start, and never more than 2n − 1.
   pub plan-longest : LongestRuns t (planRuns launch t)
-  unfolding inOrder
+  unfolding eachFollows
   plan-longest =
       record {
         stretches = rw (plan-owner launch t legal none) plan-stretches;

@@ -25,7 +25,7 @@ use Rattle.schedule.specs.Ticks.{Owner}
 use Rattle.schedule.specs.Runnings.{Whole, Running, discards}
 use Rattle.base.specs.Members.{All}
 use Rattle.schedule.specs.Runs.{tooMany, ownerOf, Together}
-use Rattle.schedule.specs.Judging.{verdict, firstBadMark, judgeSays, judgeBy, judgeTable, judged, keptCount, discardedCount}
+use Rattle.schedule.specs.Judging.{verdict, firstBadMark, judgeSays, judgeByVerdict, judgeTable, judgeFile, judgeReply, countMarked, keptCount, discardedCount}
 use Rattle.schedule.proofs.JudgeLaws.{job-position, together-discards, judge-verdict}
 use Rattle.base.specs.Limits.{maxRuns}
 use Rattle.placement.proofs.RunOrder.{Listed}
@@ -34,10 +34,11 @@ use Rattle.orders.specs.KindOrder.{kindBefore, orderLastFirst, jobsLastFirst}
 use Rattle.orders.proofs.SortLaws.{count-order}
 use Rattle.orders.proofs.OrderLaws.{all-jobs, jobs-length, jobs-distinct}
 use Rattle.orders.proofs.TableRunnings.{together-of-order, discards-order, exists-order, least-order, fewest-order}
-use Rattle.plans.specs.Planning.{LentLists, shortLists, fitsBy, placedBy, mandatoryFit, firstUnmet, keepList, markAt, marksBy, planRunsBy, planDeclined, madeBy, replyBy, planMarks, planRuns, planOf, planTable, planReply}
+use Rattle.plans.specs.Planning.{LentLists, shortLists, markAt, marksBy, planRunsBy, planDeclined, madeBy, replyBy, planMarks, planRuns, planTable, planReply}
+use Rattle.plans.specs.PlanParts.{fitsBy, placedBy, planOf, mandatoryFit, unmetPlace, chosenMarks}
 use Rattle.plans.specs.Demands.{NoRunning, Optimal}
 use Rattle.plans.specs.KindJobs.{JobsOfKind}
-use Rattle.plans.proofs.JobPlans.{length-by, exists-by, unmet-test, listed-by, few-by, together-by, running-by, discards-by, chosen-by, least-by}
+use Rattle.plans.proofs.JobPlans.{length-by, exists-by, unmet-test, listed-by, few-by, together-by, running-by, discards-by, chosen-meets-by, least-by}
 use Rattle.plans.proofs.TableJobs.{kind-jobs}
 use Rattle.plans.proofs.MarkLaws.{mark-low, marks-same, kept-marks}
 
@@ -46,14 +47,14 @@ pub jobs-below : (launch : ℕ) (t : Table) → All (λ job. job .position < t .
 jobs-below launch t = all-jobs launch t (λ job. job .position < t .count) (λ k l. rw (job-position launch t k) l)
 
 -- an unmet task is found exactly where they do not fit
-unmet-table : (launch : ℕ) (t : Table) → ltb (firstUnmet launch t) (t .count) ≡ not (mandatoryFit launch t)
-unfolding firstUnmet mandatoryFit
+unmet-table : (launch : ℕ) (t : Table) → ltb (unmetPlace launch t) (t .count) ≡ not (mandatoryFit launch t)
+unfolding unmetPlace mandatoryFit
 unmet-table launch t = unmet-test (isNested t) (t .count) (jobsLastFirst launch t) (jobs-below launch t)
 
-pub none-unmet : (launch : ℕ) (t : Table) → ltb (firstUnmet launch t) (t .count) ≡ false → mandatoryFit launch t ≡ true
+pub none-unmet : (launch : ℕ) (t : Table) → ltb (unmetPlace launch t) (t .count) ≡ false → mandatoryFit launch t ≡ true
 none-unmet launch t e = not-false (mandatoryFit launch t) (sym (unmet-table launch t) ∙ e)
 
-some-unmet : (launch : ℕ) (t : Table) → ltb (firstUnmet launch t) (t .count) ≡ true → mandatoryFit launch t ≡ false
+some-unmet : (launch : ℕ) (t : Table) → ltb (unmetPlace launch t) (t .count) ≡ true → mandatoryFit launch t ≡ false
 some-unmet launch t e = turned (mandatoryFit launch t) (sym (unmet-table launch t) ∙ e)
   where
     turned : (b : Bool) → not b ≡ true → b ≡ false
@@ -71,9 +72,9 @@ table-running-exists launch t legal =
 pub table-reply : (launch : ℕ) (t : Table) (lists : LentLists)
     → planTable launch t lists
     ≡ pick (badLaunch launch) (planDeclined 14 0)
-    (pick (ltb (firstUnmet launch t) (t .count)) (planDeclined 8 (firstUnmet launch t))
+    (pick (ltb (unmetPlace launch t) (t .count)) (planDeclined 8 (unmetPlace launch t))
     (pick (shortLists (t .count) lists) (planDeclined 9 0) (planOf launch t)))
-unfolding planTable replyBy firstUnmet planOf
+unfolding planTable replyBy unmetPlace planOf
 table-reply launch t lists = refl
 
 -- Demand 2, refusal 8, on the table of an accepted file.
@@ -82,7 +83,7 @@ table-impossible : (launch : ℕ) (t : Table) → badLaunch launch ≡ false →
 unfolding planOf madeBy
 table-impossible launch t low legal lists =
     rw (table-reply launch t lists, low)
-    (cases (ltb (firstUnmet launch t) (t .count))
+    (cases (ltb (unmetPlace launch t) (t .count))
     (λ e. rw e (λ z owner r. both-absurd (mandatoryFit launch t) (table-running-exists launch t legal .0 (owner, r)) (some-unmet launch t e), λ f. refl))
     (λ e.
     let r = table-running-exists launch t legal .1 (none-unmet launch t e) in
@@ -97,74 +98,74 @@ module _ (launch : ℕ) (t : Table) (legal : Legal t) (none : mandatoryFit launc
   kind = kind-jobs launch t legal
 
   -- its keep list fits
-  pub keeps-fit : fitsBy (isNested t) (jobsLastFirst launch t) (keepList launch t) ≡ true
-  unfolding keepList mandatoryFit
-  keeps-fit = chosen-by (isNested t) (jobsLastFirst launch t) none
+  pub keeps-fit : fitsBy (isNested t) (jobsLastFirst launch t) (chosenMarks launch t) ≡ true
+  unfolding chosenMarks mandatoryFit
+  keeps-fit = chosen-meets-by (isNested t) (jobsLastFirst launch t) none .fit
 
   -- its marks say what the keep list says
-  pub plan-marks : SameMarks (jobsLastFirst launch t) (keepList launch t) (planMarks launch t)
-  unfolding planMarks marksBy keepList
+  pub plan-marks : SameMarks (jobsLastFirst launch t) (chosenMarks launch t) (planMarks launch t)
+  unfolding planMarks marksBy chosenMarks
   plan-marks =
-      marks-same (jobsLastFirst launch t) (keepList launch t) (t .count)
-      (length-by (isNested t) (jobsLastFirst launch t) (keepList launch t) keeps-fit) (jobs-distinct launch t) (jobs-below launch t)
+      marks-same (jobsLastFirst launch t) (chosenMarks launch t) (t .count)
+      (length-by (isNested t) (jobsLastFirst launch t) (chosenMarks launch t) keeps-fit) (jobs-distinct launch t) (jobs-below launch t)
 
   -- none of its runs is empty, they stand by start, and they say who has each tick
-  pub plan-listed : Listed (placedBy (isNested t) (jobsLastFirst launch t) (keepList launch t)) (planRuns launch t)
-  unfolding planRuns planRunsBy keepList
-  plan-listed = listed-by (isNested t) (jobsLastFirst launch t) (keepList launch t) kind keeps-fit
+  pub plan-listed : Listed (placedBy (isNested t) (jobsLastFirst launch t) (chosenMarks launch t)) (planRuns launch t)
+  unfolding planRuns planRunsBy chosenMarks
+  plan-listed = listed-by (isNested t) (jobsLastFirst launch t) (chosenMarks launch t) kind keeps-fit
 
-  pub plan-owner : ownerOf (planRuns launch t) ≡ placedBy (isNested t) (jobsLastFirst launch t) (keepList launch t)
+  pub plan-owner : ownerOf (planRuns launch t) ≡ placedBy (isNested t) (jobsLastFirst launch t) (chosenMarks launch t)
   plan-owner = fun-ext (plan-listed .says)
 
   -- marks and runs are together a running of the table
   pub plan-together : Together (jobsOf launch t) (planMarks launch t) (planRuns launch t)
-  unfolding planRuns planRunsBy keepList
+  unfolding planRuns planRunsBy chosenMarks
   plan-together =
       together-of-order launch Whole workOf t (planMarks launch t) (planRuns launch t)
-      (together-by (isNested t) (jobsLastFirst launch t) (keepList launch t) (planMarks launch t) kind keeps-fit plan-marks)
+      (together-by (isNested t) (jobsLastFirst launch t) (chosenMarks launch t) (planMarks launch t) kind keeps-fit plan-marks)
 
   -- no running discards fewer parts than the plan
   plan-least : (owner : Owner) → Running (jobsLastFirst launch t) owner → planOf launch t .discarded ≤ discards (jobsLastFirst launch t) owner
-  unfolding planOf madeBy keepList mandatoryFit
+  unfolding planOf madeBy chosenMarks mandatoryFit
   plan-least = least-by (isNested t) (jobsLastFirst launch t) kind none
 
-  plan-discards : discards (jobsLastFirst launch t) (placedBy (isNested t) (jobsLastFirst launch t) (keepList launch t)) ≡ planOf launch t .discarded
-  unfolding planOf madeBy keepList
-  plan-discards = discards-by (isNested t) (jobsLastFirst launch t) (keepList launch t) kind keeps-fit
+  plan-discards : discards (jobsLastFirst launch t) (placedBy (isNested t) (jobsLastFirst launch t) (chosenMarks launch t)) ≡ planOf launch t .discarded
+  unfolding planOf madeBy chosenMarks
+  plan-discards = discards-by (isNested t) (jobsLastFirst launch t) (chosenMarks launch t) kind keeps-fit
 
   -- Demand 3, whole.
   pub plan-optimal : Optimal launch t (planMarks launch t) (planRuns launch t) (planOf launch t .discarded)
   plan-optimal =
-      let owner = placedBy (isNested t) (jobsLastFirst launch t) (keepList launch t) in
+      let owner = placedBy (isNested t) (jobsLastFirst launch t) (chosenMarks launch t) in
       record {
         together = plan-together;
         discarded = ap (discards (jobsOf launch t)) plan-owner ∙ (discards-order launch t owner ∙ plan-discards);
         least = least-order launch t (planOf launch t .discarded) plan-least;
-        exactly = fewest-order launch t (planOf launch t .discarded) owner (running-by (isNested t) (jobsLastFirst launch t) (keepList launch t) kind keeps-fit) plan-discards plan-least;
+        exactly = fewest-order launch t (planOf launch t .discarded) owner (running-by (isNested t) (jobsLastFirst launch t) (chosenMarks launch t) kind keeps-fit) plan-discards plan-least;
       }
 
   -- there are never more than 2n − 1 runs
   pub plan-few : length (planRuns launch t) ≤ 2 * t .count - 1
-  unfolding planRuns planRunsBy keepList
-  plan-few = omega (arith, few-by (isNested t) (jobsLastFirst launch t) (keepList launch t) kind keeps-fit, jobs-length launch t)
+  unfolding planRuns planRunsBy chosenMarks
+  plan-few = omega (arith, few-by (isNested t) (jobsLastFirst launch t) (chosenMarks launch t) kind keeps-fit, jobs-length launch t)
 
   -- the marks are one a task, and none is above 1
   pub marks-length : length (planMarks launch t) ≡ t .count
-  unfolding planMarks marksBy keepList
-  marks-length = places-length (markAt (jobsLastFirst launch t) (keepList launch t)) (t .count)
+  unfolding planMarks marksBy chosenMarks
+  marks-length = places-length (markAt (jobsLastFirst launch t) (chosenMarks launch t)) (t .count)
 
   pub marks-low : (k : ℕ) → k < t .count → getD (planMarks launch t) k 0 ≤ 1
-  unfolding planMarks marksBy keepList
+  unfolding planMarks marksBy chosenMarks
   marks-low k l =
-      rw (places-at (markAt (jobsLastFirst launch t) (keepList launch t)) (t .count) k 0 l)
-      (omega (arith, mark-low (jobsLastFirst launch t) (keepList launch t) k))
+      rw (places-at (markAt (jobsLastFirst launch t) (chosenMarks launch t)) (t .count) k 0 l)
+      (omega (arith, mark-low (jobsLastFirst launch t) (chosenMarks launch t) k))
 
   -- the judge's counts are the plan's
   plan-kept : keptCount t (planMarks launch t) ≡ planOf launch t .kept
-  unfolding keptCount planOf madeBy keepList jobsLastFirst orderLastFirst jobAt jobOf
+  unfolding planOf madeBy chosenMarks jobsLastFirst orderLastFirst jobAt jobOf countMarked
   plan-kept =
       sym
-      (kept-marks launch t (planMarks launch t) (orderLastFirst t) (keepList launch t) plan-marks
+      (kept-marks launch t (planMarks launch t) (orderLastFirst t) (chosenMarks launch t) plan-marks
       ∙ count-order (kindBefore t) (λ k. and (counts (jobAt launch t k)) (eqb (getD (planMarks launch t) k 0) 1)) (t .count))
 
   plan-discarded : discardedCount t (planMarks launch t) ≡ planOf launch t .discarded
@@ -177,7 +178,7 @@ module _ (launch : ℕ) (t : Table) (legal : Legal t) (none : mandatoryFit launc
   -- Demand 2: the judge accepts the plan, with the plan's counts.
   table-judged : badLaunch launch ≡ false
       → judgeTable launch t (planMarks launch t) (planRuns launch t) ≡ judgeSays true (planOf launch t .kept) (planOf launch t .discarded)
-  unfolding judgeTable judgeBy verdict firstBadMark tooMany
+  unfolding judgeTable judgeByVerdict firstBadMark tooMany
   table-judged low =
       let good : firstBadMark (planMarks launch t) (t .count) ≡ t .count =
       none-passes (λ k. ltb 1 (getD (planMarks launch t) k 0)) (t .count) (λ k l. le-ltb 1 (getD (planMarks launch t) k 0) (marks-low k l)) in
@@ -208,7 +209,7 @@ pub record Plannable (launch : ℕ) (file : List ℕ) : Type 0 where
 
 -- Demand 2: the judge accepts every plan, with the plan's counts.
 pub plan-judged : (launch : ℕ) (file : List ℕ) → Plannable launch file
-    → judged launch file (planMarks launch (tableIn file)) (planRuns launch (tableIn file))
+    → judgeReply launch file (planMarks launch (tableIn file)) (planRuns launch (tableIn file))
     ≡ judgeSays true (planOf launch (tableIn file) .kept) (planOf launch (tableIn file) .discarded)
-unfolding judged
+unfolding judgeReply judgeFile
 plan-judged launch file p = rw (p .accepted) (table-judged launch (tableIn file) (p .legal) (p .none) (p .launched))

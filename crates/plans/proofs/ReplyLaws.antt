@@ -23,15 +23,15 @@ use Rattle.schedule.specs.declared.Run.{Run}
 use Rattle.schedule.specs.Runs.{startsOf, endsOf, tasksOf}
 use Rattle.schedule.specs.Judging.{judgeSays}
 use Rattle.plans.specs.declared.Planned.{Planned}
-use Rattle.plans.specs.Planning.{LentLists, shortLists, unmetBy, marksBy, planRunsBy, madeBy, replyBy, writtenBy, afterBy, firstUnmet, planMarks, planRuns, planDeclined, planOf, planTable, planReply, listsAfter}
+use Rattle.plans.specs.Planning.{LentLists, shortLists, unmetBy, marksBy, planRunsBy, madeBy, replyBy, writtenBy, afterBy, planMarks, planRuns, planDeclined, planTable, planReply, listsAfter}
+use Rattle.plans.specs.PlanParts.{planOf, unmetPlace}
 use Rattle.plans.specs.Demands.{marksIn, runsIn, JudgeAccepts, PlannedOptimal}
 use Rattle.orders.specs.KindOrder.{jobsLastFirst}
 use Rattle.plans.specs.Rules.{FirstUnmet, FirstExceeding, PlannedByRules, EightFirst}
 use Rattle.plans.proofs.PlanLaws.{table-reply, none-unmet, marks-length, plan-optimal, Plannable, plan-judged}
 use Rattle.plans.proofs.UnmetFirst.{unmet-first}
 use Rattle.plans.proofs.ExceedingFirst.{firstExceeding, exceeding-first}
-use Rattle.plans.proofs.RuleLaws.{plan-by-rules}
-use Rattle.plans.proofs.PlacingRules.{plan-placed, plan-longest}
+use Rattle.plans.proofs.RulesSettle.{plan-rules}
 use Rattle.schedule.proofs.ColumnLaws.{columns-runs}
 use Rattle.base.proofs.ListLaws.{front-taken}
 
@@ -107,14 +107,14 @@ file-accepted launch file lists e = rw e
 
 -- a table that gets a plan: its reply, and that the launch tick is accepted and the mandatory parts fit
 table-planned : (launch : ℕ) (t : Table) (lists : LentLists) → planTable launch t lists .number ≡ 0
-    → (badLaunch launch ≡ false) × (ltb (firstUnmet launch t) (t .count) ≡ false) × (planTable launch t lists ≡ planOf launch t)
+    → (badLaunch launch ≡ false) × (ltb (unmetPlace launch t) (t .count) ≡ false) × (planTable launch t lists ≡ planOf launch t)
 table-planned launch t lists =
     rw (table-reply launch t lists)
     (cases (badLaunch launch)
     (λ d. rw d (λ z. absurd (omega arith)))
     (λ d.
     rw d
-    (cases (ltb (firstUnmet launch t) (t .count))
+    (cases (ltb (unmetPlace launch t) (t .count))
     (λ e. rw e (λ z. absurd (omega arith)))
     (λ e.
     rw e
@@ -218,16 +218,11 @@ pub reply-by-rules : (launch : ℕ) (file : List ℕ) (reply : Planned) (old new
 reply-by-rules launch file reply old new r z =
     let m = made launch file reply old new r z in
     rw (marks-taken launch file reply old new r z, runs-taken launch file reply old new r z)
-    (record {
-      chosen = plan-by-rules launch (tableIn file) (m .made .none);
-      together = plan-optimal launch (tableIn file) (m .made .legal) (m .made .none) .together;
-      placed = plan-placed launch (tableIn file) (m .made .legal) (m .made .none);
-      longest = plan-longest launch (tableIn file) (m .made .legal) (m .made .none);
-    })
+    (plan-rules launch (tableIn file) (m .made .legal) (m .made .none))
 
 -- In a nested table the search for an unmet task is that for one that exceeds its window.
-unmet-exceeding : (launch : ℕ) (t : Table) → isNested t ≡ true → firstUnmet launch t ≡ firstExceeding launch t
-unfolding firstUnmet unmetBy firstExceeding
+unmet-exceeding : (launch : ℕ) (t : Table) → isNested t ≡ true → unmetPlace launch t ≡ firstExceeding launch t
+unfolding unmetPlace unmetBy firstExceeding
 unmet-exceeding launch t e = rw e refl
 
 -- The place of an 8, on the table of an accepted file and on any file: no refusal of reading has the number 8.
@@ -240,12 +235,12 @@ table-first launch t legal lists =
     (λ d. rw d (λ z. absurd (omega arith)))
     (λ d.
     rw d
-    (cases (ltb (firstUnmet launch t) (t .count))
+    (cases (ltb (unmetPlace launch t) (t .count))
     (λ e.
-    let found = ltb-true (firstUnmet launch t) (t .count) e in
+    let found = ltb-true (unmetPlace launch t) (t .count) e in
     rw e (λ z. (
-      unmet-first launch t legal (firstUnmet launch t) .0 (refl, found),
-      λ n. exceeding-first launch t (firstUnmet launch t) .0 (sym (unmet-exceeding launch t n), found),
+      unmet-first launch t legal (unmetPlace launch t) .0 (refl, found),
+      λ n. exceeding-first launch t (unmetPlace launch t) .0 (sym (unmet-exceeding launch t n), found),
     )))
     (λ e. rw e (cases (shortLists (t .count) lists) (λ h. rw h (λ z. absurd (omega arith))) (λ h. rw h (λ z. absurd (omega arith))))))))
 

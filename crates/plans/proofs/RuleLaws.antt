@@ -16,13 +16,15 @@ use Rattle.table.specs.Tables.{taskAt}
 use Rattle.table.specs.Kinds.{isNested}
 use Rattle.schedule.specs.Jobs.{jobOf, jobAt}
 use Rattle.schedule.specs.Judging.{discardedCount}
-use Rattle.choice.specs.Choice.{keptTicks, KeepsFirst, discarded, ZeroKept}
+use Rattle.choice.specs.Choice.{keptTicks, discarded}
+use Rattle.choice.specs.KeepLists.{KeepsFirst, ZeroKept}
 use Rattle.choice.proofs.TieLaws.{first-cons}
 use Rattle.orders.specs.KindOrder.{kindBefore, orderLastFirst, jobsLastFirst}
 use Rattle.orders.proofs.SortLaws.{Sorted}
 use Rattle.orders.proofs.OrderLaws.{jobs-length}
 use Rattle.orders.proofs.BeforeLaws.{kind-once, kind-falls, all-order, order-all, among-order, order-among}
-use Rattle.plans.specs.Planning.{fitsBy, chosenAs, marksBy, keepList, planMarks, mandatoryFit}
+use Rattle.plans.specs.Planning.{chosenBy, marksBy, planMarks}
+use Rattle.plans.specs.PlanParts.{fitsBy, chosenMarks, mandatoryFit}
 use Rattle.plans.specs.Rules.{KeepList, Fitting, keptTicksOf, ByRules}
 use Rattle.plans.proofs.JobPlans.{length-by, none-by, zero-by, MeetsBy, chosen-meets-by, meets-chosen-by}
 use Rattle.plans.proofs.FittingLaws.{keepAt, keepsOf, marksOf, same-mark, marks-one, marks-list, keeps-back}
@@ -184,17 +186,19 @@ module _ (launch : ℕ) (t : Table) where
 
   -- Where the mandatory parts alone fit, the planner's marks follow the rules.
   pub plan-by-rules : mandatoryFit launch t ≡ true → ByRules launch t (planMarks launch t)
-  unfolding planMarks marksBy keepList mandatoryFit
+  unfolding planMarks marksBy chosenMarks mandatoryFit
   plan-by-rules none =
       let jobs = jobsLastFirst launch t in
-      let keeps = chosenAs (isNested t) jobs in
+      let keeps = chosenBy (isNested t) jobs in
       let meets = chosen-meets-by (isNested t) jobs none in
       let back : keepsOf t (marksOf launch t keeps) ≡ keeps = keeps-back launch t keeps (length-by (isNested t) jobs keeps (meets .fit) ∙ jobs-length launch t) in
       meets-by-rules (marksOf launch t keeps) (marks-list launch t keeps) (rw back meets) (rw back (zero-by (isNested t) jobs none))
 
-  -- So a list that follows them is the planner's.
-  pub rules-plan : (marks : List ℕ) → ByRules launch t marks → marks ≡ planMarks launch t
+  -- Where some list follows them, the mandatory parts alone fit,
+  pub rules-fit : (marks : List ℕ) → ByRules launch t marks → mandatoryFit launch t ≡ true
   unfolding mandatoryFit
-  rules-plan marks r =
-      rules-one marks (planMarks launch t) r
-      (plan-by-rules (none-by (isNested t) (jobsLastFirst launch t) (keepsOf t marks) (keeps-fitting launch t marks (r .fit .list) .1 (r .fit))))
+  rules-fit marks r = none-by (isNested t) (jobsLastFirst launch t) (keepsOf t marks) (keeps-fitting launch t marks (r .fit .list) .1 (r .fit))
+
+  -- and the list is the planner's.
+  pub rules-plan : (marks : List ℕ) → ByRules launch t marks → marks ≡ planMarks launch t
+  rules-plan marks r = rules-one marks (planMarks launch t) r (plan-by-rules (rules-fit marks r))

@@ -7,15 +7,17 @@ use mathlib.Core.Bool.{Bool, true, false}
 use lib.ListN.{length, length-map}
 use Rattle.base.proofs.ListLaws.{map-reverse}
 use Rattle.schedule.specs.declared.Job.{Job}
-use Rattle.schedule.specs.Ticks.{one}
-use Rattle.schedule.specs.Shifting.{laterJob, laterRun, laterJobs, laterRuns, LaterOwner}
+use Rattle.schedule.specs.Ticks.{oneIf}
+use Rattle.schedule.specs.Shifting.{laterRun, laterRuns}
+use Rattle.schedule.specs.LaterJobs.{laterJob, laterJobs, LaterOwner}
 use Rattle.schedule.proofs.ShiftLaws.{window-shift}
 use Rattle.choice.specs.Choice.{countOne}
 use Rattle.choice.proofs.ShiftLaws as choices
 use Rattle.placement.specs.ByPosition.{numberAt}
 use Rattle.placement.proofs.ShiftLaws as nests
 use Rattle.sequence.proofs.ShiftLaws as orders
-use Rattle.plans.specs.Planning.{exceedingAfter, unmetBy, fitsBy, chosenAs, placedBy, runsBy, markAt, marksBy, planRunsBy, LentLists, madeBy, replyBy}
+use Rattle.plans.specs.Planning.{exceedingAfter, unmetBy, chosenBy, runsBy, markAt, marksBy, planRunsBy, LentLists, madeBy, replyBy}
+use Rattle.plans.specs.PlanParts.{fitsBy, placedBy}
 use Rattle.plans.specs.LaterPlans.{LaterPlan}
 
 module _ (c : ℕ) where
@@ -34,7 +36,7 @@ module _ (c : ℕ) where
 
   -- The mark of each position is the same.
   pub mark-shift : (jobs : List Job) (keeps : List Bool) (k : ℕ) → markAt (laterJobs c jobs) keeps k ≡ markAt jobs keeps k
-  mark-shift jobs keeps k = number-shift jobs (map one keeps) k
+  mark-shift jobs keeps k = number-shift jobs (map oneIf keeps) k
 
 -- the first task that can't be met is the same
 unmet-shift : (nested : Bool) (c n : ℕ) (jobs : List Job) → unmetBy nested n (laterJobs c jobs) ≡ unmetBy nested n jobs
@@ -49,8 +51,8 @@ fit-shift true c jobs keeps = choices.fits-shift c jobs keeps
 fit-shift false c jobs keeps = orders.fits-shift c jobs keeps
 
 -- the same list is chosen
-chosen-shift : (nested : Bool) (c : ℕ) (jobs : List Job) → chosenAs nested (laterJobs c jobs) ≡ chosenAs nested jobs
-unfolding chosenAs
+chosen-shift : (nested : Bool) (c : ℕ) (jobs : List Job) → chosenBy nested (laterJobs c jobs) ≡ chosenBy nested jobs
+unfolding chosenBy
 chosen-shift true c jobs = choices.chosen-shift c jobs
 chosen-shift false c jobs = orders.chosen-shift c jobs
 
@@ -88,19 +90,19 @@ pub marks-later : (nested : Bool) (c n : ℕ) (jobs : List Job) → marksBy nest
 unfolding marksBy
 marks-later nested c n jobs =
     let l = plan-later nested c jobs in
-    rw (l .keeps, fun-ext (l .marks (chosenAs nested jobs)))
+    rw (l .keeps, fun-ext (l .marks (chosenBy nested jobs)))
 
 pub runs-later : (nested : Bool) (c : ℕ) (jobs : List Job) → planRunsBy nested (laterJobs c jobs) ≡ laterRuns c (planRunsBy nested jobs)
 unfolding planRunsBy
 runs-later nested c jobs =
     let l = plan-later nested c jobs in
-    rw (l .keeps) (l .runs (chosenAs nested jobs))
+    rw (l .keeps) (l .runs (chosenBy nested jobs))
 
 pub made-later : (nested : Bool) (c : ℕ) (jobs : List Job) → madeBy nested (laterJobs c jobs) ≡ madeBy nested jobs
 unfolding madeBy
 made-later nested c jobs =
     let l = plan-later nested c jobs in
-    let keeps = chosenAs nested jobs in
+    let keeps = chosenBy nested jobs in
     let count = ap length (runs-later nested c jobs) ∙ length-map (planRunsBy nested jobs) (laterRun c) in
     rw (count, l .keeps, l .kept keeps, l .discarded keeps)
 

@@ -21,7 +21,7 @@ use Rattle.schedule.specs.Jobs.{jobAt, windowTicks}
 use Rattle.schedule.specs.Ticks.{Owner}
 use Rattle.schedule.specs.Runnings.{Whole, Running}
 use Rattle.schedule.proofs.JudgeLaws.{job-position}
-use Rattle.placement.proofs.Permutations as lists
+use Rattle.placement.proofs.SameJobs.{running-same}
 use Rattle.choice.specs.Choice.{worksFit, worksOf, keepNone}
 use Rattle.choice.specs.Programme.{mandatorySum}
 use Rattle.choice.proofs.FitLaws.{fits-tail}
@@ -31,7 +31,8 @@ use Rattle.sequence.proofs.LateLaws.{late-test, fits-mandatory}
 use Rattle.orders.specs.KindOrder.{kindBefore, orderLastFirst, jobsLastFirst}
 use Rattle.orders.proofs.SortLaws.{Sorted}
 use Rattle.orders.proofs.BeforeLaws.{kind-once, kind-total, kind-falls, among-order, order-among, sorted-other}
-use Rattle.plans.specs.Planning.{exceedingAfter, unmetBy, fitsBy, firstUnmet, mandatoryFit}
+use Rattle.plans.specs.Planning.{exceedingAfter, unmetBy}
+use Rattle.plans.specs.PlanParts.{fitsBy, unmetPlace, mandatoryFit}
 use Rattle.plans.specs.KindJobs.{JobsOfKind}
 use Rattle.plans.specs.Rules.{upTo, jobsThat, jobsUpTo, FirstUnmet}
 use Rattle.plans.proofs.ExceedLaws.{exceeding-append, exceeding-test}
@@ -179,7 +180,7 @@ module _ (launch : ℕ) (t : Table) where
   running-on : (n : ℕ) (js : List ℕ) → Sorted (kindBefore t) js → All (λ j. j < n) js → ((j : ℕ) → j < n → Any (λ i. i ≡ j) js) → (k : ℕ) → k < n
       → (owner : Owner) → Running (jobsThat launch t (λ j. upTo t j k) n) owner ↔ Running (map (jobAt launch t) (fromOn js k)) owner
   running-on n js s b all k l owner =
-      lists.running-same Whole (jobsThat launch t (λ j. upTo t j k) n) (map (jobAt launch t) (fromOn js k)) owner
+      running-same Whole (jobsThat launch t (λ j. upTo t j k) n) (map (jobAt launch t) (fromOn js k)) owner
       (λ job m.
       let r = of-that (λ other. other ≡ job) (λ j. upTo t j k) n m in
       jobs-of (λ other. other ≡ job) (fromOn js k) (r .0) (members-on js s k (r .0) (all k l) (all (r .0) (r .1)) (r .2)) (r .3))
@@ -294,16 +295,16 @@ module _ (launch : ℕ) (t : Table) where
 
 -- The search in an accepted table finds a place exactly where it is that of the first unmet task.
 module _ (launch : ℕ) (t : Table) (legal : Legal t) where
-  unmet-found : firstUnmet launch t < t .count → FirstUnmet launch t (firstUnmet launch t)
-  unfolding firstUnmet jobsUpTo jobsLastFirst
+  unmet-found : unmetPlace launch t < t .count → FirstUnmet launch t (unmetPlace launch t)
+  unfolding unmetPlace jobsUpTo jobsLastFirst
   unmet-found l =
       let order = orderLastFirst t in
       let below = all-members (λ j. j < t .count) order .1 (order-among t) in
       let kind = kind-jobs launch t legal in
       record {
         known = l;
-        unmet = found-unmet launch t (isNested t) (t .count) order (kind-falls t) below (among-order t) kind (firstUnmet launch t) refl l;
-        first = found-first launch t (isNested t) (t .count) order (kind-falls t) below (among-order t) kind (firstUnmet launch t) refl l;
+        unmet = found-unmet launch t (isNested t) (t .count) order (kind-falls t) below (among-order t) kind (unmetPlace launch t) refl l;
+        first = found-first launch t (isNested t) (t .count) order (kind-falls t) below (among-order t) kind (unmetPlace launch t) refl l;
       }
 
   -- there is one at most
@@ -319,7 +320,7 @@ module _ (launch : ℕ) (t : Table) (legal : Legal t) where
       ]
 
   -- where all mandatory parts fit, those up to each task do
-  all-met : ltb (firstUnmet launch t) (t .count) ≡ false → (place : ℕ) → place < t .count → (owner : Owner) × Running (jobsUpTo launch t place) owner
+  all-met : ltb (unmetPlace launch t) (t .count) ≡ false → (place : ℕ) → place < t .count → (owner : Owner) × Running (jobsUpTo launch t place) owner
   unfolding jobsUpTo jobsLastFirst mandatoryFit
   all-met e place l =
       let order = orderLastFirst t in
@@ -328,11 +329,11 @@ module _ (launch : ℕ) (t : Table) (legal : Legal t) where
       let r = exists-by (isNested t) (map (jobAt launch t) (fromOn order place)) (kind-on launch t (isNested t) order (kind-jobs launch t legal) place (among-order t place l)) .1 fits in
       (r .0, running-on launch t (t .count) order (kind-falls t) below (among-order t) place l (r .0) .1 (r .1))
 
-  pub unmet-first : (place : ℕ) → ((firstUnmet launch t ≡ place) × (place < t .count)) ↔ FirstUnmet launch t place
+  pub unmet-first : (place : ℕ) → ((unmetPlace launch t ≡ place) × (place < t .count)) ↔ FirstUnmet launch t place
   unmet-first place = (
     λ h. rw (h .0) at (unmet-found (rw (h .0) (h .1))),
     λ f.
-        cases (ltb (firstUnmet launch t) (t .count))
-        (λ e. (unmet-one (firstUnmet launch t) place (unmet-found (ltb-true (firstUnmet launch t) (t .count) e)) f, f .known))
+        cases (ltb (unmetPlace launch t) (t .count))
+        (λ e. (unmet-one (unmetPlace launch t) place (unmet-found (ltb-true (unmetPlace launch t) (t .count) e)) f, f .known))
         (λ e. let r = all-met e place (f .known) in absurd (f .unmet (r .0) (r .1))),
   )

@@ -12,10 +12,9 @@ use Rattle.table.specs.Reading.{tableIn, readAnswer}
 use Rattle.schedule.specs.declared.Run.{Run}
 use Rattle.schedule.specs.Jobs.{jobsOf}
 use Rattle.schedule.specs.Ticks.{Owner}
-use Rattle.schedule.specs.Runnings.{Running, discards}
+use Rattle.schedule.specs.Runnings.{Running, discards, Fewest}
 use Rattle.schedule.specs.Runs.{runsOf, ownerOf, Together}
-use Rattle.schedule.specs.Judging.{judged, judgeSays}
-use Rattle.placement.specs.Outcomes.{Fewest}
+use Rattle.schedule.specs.Judging.{judgeReply, judgeSays}
 use Rattle.plans.specs.declared.Planned.{Planned}
 use Rattle.plans.specs.Planning.{LentLists}
 
@@ -48,7 +47,7 @@ EightExactly launch file reply = readAnswer file ≡ Accepted → badLaunch laun
 abbrev pub JudgeAccepts : ℕ → List ℕ → Planned → LentLists → Type 0
 JudgeAccepts launch file reply after =
     reply .number ≡ 0
-    → judged launch file (marksIn file after) (runsIn reply after) ≡ judgeSays true (reply .kept) (reply .discarded)
+    → judgeReply launch file (marksIn file after) (runsIn reply after) ≡ judgeSays true (reply .kept) (reply .discarded)
 
 -- Demand 3, of every table that was planned
 abbrev pub PlannedOptimal : ℕ → List ℕ → Planned → LentLists → Type 0

@@ -1,12 +1,14 @@
 -- Planning a table: the keep list, the runs, the reply, and what the lent lists hold afterwards.
-use Prim.Native.Nat.{ℕ, _+_, _-_, _*_}
+use denote.Ref.{now}
+use Prim.Native.Nat.{ℕ, _+_}
 use mathlib.Core.List.{List, [], _∷_, map, reverse}
 use mathlib.Core.Bool.{Bool}
 use lib.Dec.{ltb, eqb}
 use lib.ListN.{length, replicate}
 use Rattle.base.specs.Tests.{pick, or}
+use Rattle.base.specs.Limits.{mostRuns}
 use Rattle.base.specs.Places.{places}
-use Rattle.base.specs.Lent.{writtenFront}
+use Rattle.base.specs.Lent.{ListParameter, writtenFront}
 use Rattle.clock.specs.Clock.{badLaunch}
 use Rattle.table.specs.declared.Table.{Table}
 use Rattle.table.specs.Kinds.{isNested}
@@ -15,12 +17,12 @@ use Rattle.table.specs.Reading.{tableIn, readAnswer}
 use Rattle.schedule.specs.declared.Job.{Job}
 use Rattle.schedule.specs.declared.Run.{Run}
 use Rattle.schedule.specs.Jobs.{windowTicks}
-use Rattle.schedule.specs.Ticks.{Owner, one}
+use Rattle.schedule.specs.Ticks.{oneIf}
 use Rattle.schedule.specs.Runs.{startsOf, endsOf, tasksOf}
-use Rattle.choice.specs.Choice.{keepNone, fits, chosen, kept, discarded}
-use Rattle.placement.specs.Placing.{placed, runsPlaced}
+use Rattle.choice.specs.Choice.{chosen, kept, discarded}
+use Rattle.placement.specs.Placing.{runsPlaced}
 use Rattle.placement.specs.ByPosition.{numberAt}
-use Rattle.sequence.specs.InOrder.{fitsInOrder, placedInOrder, runsInOrder, firstLate}
+use Rattle.sequence.specs.InOrder.{runsInOrder, firstLate}
 use Rattle.sequence.specs.OrderChoice.{chosenInOrder}
 use Rattle.orders.specs.KindOrder.{jobsLastFirst}
 use Rattle.plans.specs.declared.Planned.{Planned}
@@ -40,17 +42,9 @@ exceedingAfter n sum (job ∷ jobs) =
 unfoldable pub unmetBy : Bool → ℕ → List Job → ℕ
 unmetBy nested n jobs = pick nested (exceedingAfter n 0 (reverse jobs)) (firstLate n jobs)
 
--- a keep list fits
-unfoldable pub fitsBy : Bool → List Job → List Bool → Bool
-fitsBy nested jobs keeps = pick nested (fits jobs keeps) (fitsInOrder jobs keeps)
-
 -- the keep list that is taken
-unfoldable pub chosenAs : Bool → List Job → List Bool
-chosenAs nested jobs = pick nested (chosen jobs) (chosenInOrder jobs)
-
--- who has each tick under a keep list
-unfoldable pub placedBy : Bool → List Job → List Bool → Owner
-placedBy nested jobs keeps = pick nested (placed jobs keeps) (placedInOrder jobs keeps)
+unfoldable pub chosenBy : Bool → List Job → List Bool
+chosenBy nested jobs = pick nested (chosen jobs) (chosenInOrder jobs)
 
 -- the runs of that placing
 unfoldable pub runsBy : Bool → List Job → List Bool → List Run
@@ -58,15 +52,15 @@ runsBy nested jobs keeps = pick nested (runsPlaced jobs keeps) (runsInOrder jobs
 
 -- the mark of a position in a keep list of jobs: 1 kept, 0 discarded
 abbrev pub markAt : List Job → List Bool → ℕ → ℕ
-markAt jobs keeps = numberAt jobs (map one keeps)
+markAt jobs keeps = numberAt jobs (map oneIf keeps)
 
 -- the marks of a plan of n jobs: the keep list by position
 unfoldable pub marksBy : Bool → ℕ → List Job → List ℕ
-marksBy nested n jobs = places (markAt jobs (chosenAs nested jobs)) n
+marksBy nested n jobs = places (markAt jobs (chosenBy nested jobs)) n
 
 -- the runs of a plan, by start
 unfoldable pub planRunsBy : Bool → List Job → List Run
-planRunsBy nested jobs = runsBy nested jobs (chosenAs nested jobs)
+planRunsBy nested jobs = runsBy nested jobs (chosenBy nested jobs)
 
 -- the reply of a refusal, and of a plan: parts that are not named are 0
 abbrev pub planDeclined : ℕ → ℕ → Planned
@@ -77,7 +71,7 @@ planMade kept discarded runs = record { number = 0; place = 0; kept = kept; disc
 
 -- the reply of a plan of jobs
 unfoldable pub madeBy : Bool → List Job → Planned
-madeBy nested jobs = planMade (kept jobs (chosenAs nested jobs)) (discarded jobs (chosenAs nested jobs)) (length (planRunsBy nested jobs))
+madeBy nested jobs = planMade (kept jobs (chosenBy nested jobs)) (discarded jobs (chosenBy nested jobs)) (length (planRunsBy nested jobs))
 
 -- The lists that a caller lends to planning: the marks, and the columns of the runs.
 pub record LentLists : Type 0 where
@@ -90,9 +84,12 @@ pub record LentLists : Type 0 where
 abbrev pub lent : List ℕ → List ℕ → List ℕ → List ℕ → LentLists
 lent marks starts ends tasks = record { marks = marks; starts = starts; ends = ends; tasks = tasks }
 
--- the most runs of a plan of n tasks: 'For n tasks there are never more than 2n − 1.'
-abbrev pub mostRuns : ℕ → ℕ
-mostRuns n = 2 * n - 1
+-- the lists that are lent to a call, as it begins and as it returns: for contracts
+abbrev pub lentBefore : ListParameter → ListParameter → ListParameter → ListParameter → LentLists
+lentBefore marks starts ends tasks = lent (now (marks .entry)) (now (starts .entry)) (now (ends .entry)) (now (tasks .entry))
+
+abbrev pub lentAfter : ListParameter → ListParameter → ListParameter → ListParameter → LentLists
+lentAfter marks starts ends tasks = lent (now (marks .exit)) (now (starts .exit)) (now (ends .exit)) (now (tasks .exit))
 
 -- lists that are just long enough for n tasks
 abbrev pub listsFor : ℕ → LentLists
@@ -128,18 +125,6 @@ afterBy nested n jobs reply lists = pick (eqb (reply .number) 0) (writtenBy nest
 
 -- The plan of a table at a launch tick, which is that of its jobs in the order of its kind, last first.
 
--- the mandatory parts alone fit
-unfoldable pub mandatoryFit : ℕ → Table → Bool
-mandatoryFit launch t = fitsBy (isNested t) (jobsLastFirst launch t) (keepNone (jobsLastFirst launch t))
-
--- the place of an 8, and the task count where there is none
-unfoldable pub firstUnmet : ℕ → Table → ℕ
-firstUnmet launch t = unmetBy (isNested t) (t .count) (jobsLastFirst launch t)
-
--- the keep list, in the order of the kind, last first
-unfoldable pub keepList : ℕ → Table → List Bool
-keepList launch t = chosenAs (isNested t) (jobsLastFirst launch t)
-
 -- the marks: the keep list by position
 unfoldable pub planMarks : ℕ → Table → List ℕ
 planMarks launch t = marksBy (isNested t) (t .count) (jobsLastFirst launch t)
@@ -148,9 +133,10 @@ planMarks launch t = marksBy (isNested t) (t .count) (jobsLastFirst launch t)
 unfoldable pub planRuns : ℕ → Table → List Run
 planRuns launch t = planRunsBy (isNested t) (jobsLastFirst launch t)
 
--- the reply of a plan
-unfoldable pub planOf : ℕ → Table → Planned
-planOf launch t = madeBy (isNested t) (jobsLastFirst launch t)
+-- what planning replies on a file: of an accepted one what it replies on its table, and else reading's refusal
+abbrev pub replyOnFile : (Table → Planned) → List ℕ → Planned
+replyOnFile reply file =
+    pick (isAccepted (readAnswer file)) (reply (tableIn file)) (planDeclined (numberOf (readAnswer file)) (placeOf (readAnswer file)))
 
 -- what planning replies on the table of an accepted file: 14, then 8 and 9, then the plan
 unfoldable pub planTable : ℕ → Table → LentLists → Planned
@@ -158,9 +144,7 @@ planTable launch t lists = pick (badLaunch launch) (planDeclined 14 0) (replyBy 
 
 -- the reply of planning: reading's refusals, then 14, 8 and 9
 unfoldable pub planReply : ℕ → List ℕ → LentLists → Planned
-planReply launch file lists =
-    pick (isAccepted (readAnswer file)) (planTable launch (tableIn file) lists)
-    (planDeclined (numberOf (readAnswer file)) (placeOf (readAnswer file)))
+planReply launch file lists = replyOnFile (λ t. planTable launch t lists) file
 
 -- what the lists hold after planning a table that got a reply
 unfoldable pub listsAfter : ℕ → Table → Planned → LentLists → LentLists

@@ -1,7 +1,7 @@
 -- The rules of choosing and placing, stated on positions and ticks: with no sorted list, no search and no walk over the ticks. Where the two kinds of
 -- tables have different rules, they stand one after the other. The theorems in proofs/ say that the plan of an accepted table follows them, and that
--- they settle its keep list and the place of an 8. `launch` is the launch tick: what knows windows in ticks takes it.
-use Prim.Native.Nat.{ℕ, zero, suc, _+_, _*_, _≤_, _<_}
+-- they settle its keep list, its runs and the place of an 8. `launch` is the launch tick: what knows windows in ticks takes it.
+use Prim.Native.Nat.{ℕ, zero, suc, _+_, _≤_, _<_}
 use mathlib.Core.Path.{_≡_}
 use mathlib.Core.Logic.{_≢_, _⊎_}
 use mathlib.Core.Bool.{Bool, true, false}
@@ -24,7 +24,8 @@ use Rattle.schedule.specs.Runs.{noRun, ownerOf, Together}
 use Rattle.schedule.specs.Judging.{discardedCount}
 use Rattle.orders.specs.KindOrder.{kindBefore}
 use Rattle.plans.specs.declared.Planned.{Planned}
-use Rattle.plans.specs.Planning.{LentLists, mostRuns}
+use Rattle.plans.specs.Planning.{LentLists}
+use Rattle.base.specs.Limits.{mostRuns}
 use Rattle.plans.specs.Demands.{marksIn, runsIn}
 
 -- Up to a task, in the order of the table's kind.

@@ -11,27 +11,28 @@ use Rattle.clock.specs.Clock.{badLaunch}
 use Rattle.table.specs.Reading.{tableIn}
 use Rattle.schedule.specs.Shifting.{laterRuns}
 use Rattle.orders.proofs.LaunchLaws.{jobs-launch-0}
-use Rattle.plans.specs.Planning.{listsFor, planMarks, planRuns, planOf, planReply}
+use Rattle.plans.specs.Planning.{listsFor, planMarks, planRuns, planReply}
+use Rattle.plans.specs.PlanParts.{planOf}
 use Rattle.plans.proofs.LaunchLaws.{made-launch, marks-launch, runs-launch, reply-launch, reply-launch-0}
 use Rattle.plans.specs.Launch.{earlierJobs}
-use Rattle.printed_plan.specs.Printing.{planLines, planText, longReply, printed}
-use Rattle.printed_plan.specs.ProgramInput.{launchIn, printedInput}
+use Rattle.printed_plan.specs.Printing.{planLines, planTextBy, planText, replyText, longReply, printed}
+use Rattle.printed_plan.specs.ProgramInput.{numberIn, planFront, planOfInput, planOutput}
 use Rattle.printed_plan.specs.EarlierText.{earlierPlanText, earlierLong, earlierText}
-use Rattle.printed_plan.proofs.InputLaws.{input-whole}
+use Rattle.printed_plan.proofs.InputLaws.{output-whole}
 
 -- With launch 0 every earlier text is printed: of a file,
 pub printed-launch-0 : (file : List ℕ) → printed 0 file ≡ earlierText file
-unfolding printed longReply planText planOf planMarks planRuns earlierText earlierLong earlierPlanText earlierJobs
+unfolding printed longReply planText earlierText earlierLong earlierPlanText earlierJobs
 printed-launch-0 file = rw (reply-launch-0 file (listsFor maxTasks), jobs-launch-0 (tableIn file))
 
 -- and of an input of the program that begins with its 4 bytes.
-pub input-launch-0 : (file : List ℕ) → printedInput (0 ∷ 0 ∷ 0 ∷ 0 ∷ file) ≡ earlierText file
-unfolding launchIn
-input-launch-0 file = sym (input-whole (0 ∷ 0 ∷ 0 ∷ 0 ∷ file) (omega arith)) ∙ printed-launch-0 file
+pub input-launch-0 : (file : List ℕ) → planOutput (0 ∷ 0 ∷ 0 ∷ 0 ∷ file) ≡ earlierText file
+unfolding numberIn
+input-launch-0 file = sym (output-whole planFront planOfInput (0 ∷ 0 ∷ 0 ∷ 0 ∷ file) (omega arith)) ∙ printed-launch-0 file
 
 -- A refusal of a file with launch 0 is printed at every accepted launch tick.
 pub refused-launch : (launch : ℕ) (file : List ℕ) → badLaunch launch ≡ false → (longReply 0 file .number ≡ 0 → ⊥) → printed launch file ≡ printed 0 file
-unfolding printed longReply
+unfolding printed longReply replyText
 refused-launch launch file low refused =
     rw (reply-launch launch file (listsFor maxTasks) low, ne-eqb (planReply 0 file (listsFor maxTasks) .number) 0 refused)
 
@@ -40,7 +41,7 @@ pub printed-launch : (launch : ℕ) (file : List ℕ) → badLaunch launch ≡ f
     → printed launch file
     ≡ planLines (tableIn file .count) (planOf 0 (tableIn file) .kept) (planOf 0 (tableIn file) .discarded) (planMarks 0 (tableIn file))
     (laterRuns launch (planRuns 0 (tableIn file)))
-unfolding printed longReply planText
+unfolding printed longReply replyText planText planTextBy planOf planMarks planRuns
 printed-launch launch file low zero =
     let t = tableIn file in
     rw (reply-launch launch file _ low, zero, made-launch launch t, marks-launch launch t, runs-launch launch t)

@@ -11,7 +11,7 @@ use Rattle.base.specs.Places.{placesFrom}
 use Rattle.base.proofs.PlaceLaws.{left-start, left-step, left-end}
 use Rattle.lines.specs.Text.{line}
 use Rattle.schedule.specs.declared.Run.{Run}
-use Rattle.schedule.specs.Runs.{runAt, runsOf}
+use Rattle.schedule.specs.Runs.{runAtIndex, runsOf}
 use Rattle.printed_plan.specs.Printing.{planWord, planLines, dropWord, dropsFrom, dropLines, runLine, runLines}
 
 -- the parts of a plan's text
@@ -46,16 +46,16 @@ drops-end marks k h = rw (drop-of-length-le marks {i = k} h)
 -- the RUN lines of the runs from place k on
 module _ (starts ends tasks : List ℕ) where
   unfoldable pub runsLeft : ℕ → List ℕ
-  runsLeft k = runLines (placesFrom (runAt starts ends tasks) k (length starts - k))
+  runsLeft k = runLines (placesFrom (runAtIndex starts ends tasks) k (length starts - k))
 
   pub runs-start : runLines (runsOf starts ends tasks) ≡ runsLeft 0
   unfolding runsLeft runsOf
-  runs-start = ap runLines (sym (left-start (runAt starts ends tasks) (length starts)))
+  runs-start = ap runLines (sym (left-start (runAtIndex starts ends tasks) (length starts)))
 
-  pub runs-step : (k : ℕ) → k < length starts → runsLeft k ≡ runLine (runAt starts ends tasks k) ++ runsLeft (k + 1)
+  pub runs-step : (k : ℕ) → k < length starts → runsLeft k ≡ runLine (runAtIndex starts ends tasks k) ++ runsLeft (k + 1)
   unfolding runsLeft runLines
-  runs-step k h = rw (left-step (runAt starts ends tasks) (length starts) k h)
+  runs-step k h = rw (left-step (runAtIndex starts ends tasks) (length starts) k h)
 
   pub runs-end : (k : ℕ) → length starts ≤ k → runsLeft k ≡ []
   unfolding runsLeft runLines
-  runs-end k h = rw (left-end (runAt starts ends tasks) (length starts) k h)
+  runs-end k h = rw (left-end (runAtIndex starts ends tasks) (length starts) k h)

@@ -1,22 +1,18 @@
 -- The text printed without a launch tick. The theorems say that with launch 0 the same is printed.
 use Prim.Native.Nat.{ℕ}
 use mathlib.Core.List.{List}
-use lib.Dec.{eqb}
 use Rattle.base.specs.Limits.{maxTasks}
-use Rattle.base.specs.Tests.{pick}
 use Rattle.table.specs.declared.Table.{Table}
 use Rattle.table.specs.Kinds.{isNested}
 use Rattle.table.specs.Reading.{tableIn}
 use Rattle.plans.specs.declared.Planned.{Planned}
-use Rattle.plans.specs.Planning.{marksBy, planRunsBy, madeBy, listsFor}
+use Rattle.plans.specs.Planning.{listsFor}
 use Rattle.plans.specs.Launch.{earlierJobs, earlierReply}
-use Rattle.printed_plan.specs.Printing.{planLines, refusalText}
+use Rattle.printed_plan.specs.Printing.{replyText, planTextBy}
 
 -- the text of a table's plan
 unfoldable pub earlierPlanText : Table → List ℕ
-earlierPlanText t =
-    planLines (t .count) (madeBy (isNested t) (earlierJobs t) .kept) (madeBy (isNested t) (earlierJobs t) .discarded)
-    (marksBy (isNested t) (t .count) (earlierJobs t)) (planRunsBy (isNested t) (earlierJobs t))
+earlierPlanText t = planTextBy (isNested t) (t .count) (earlierJobs t)
 
 -- the reply of planning into lists that are long enough for every table
 unfoldable pub earlierLong : List ℕ → Planned
@@ -24,6 +20,4 @@ earlierLong file = earlierReply file (listsFor maxTasks)
 
 -- the text printed of a file: its plan or its refusal
 unfoldable pub earlierText : List ℕ → List ℕ
-earlierText file =
-    pick (eqb (earlierLong file .number) 0) (earlierPlanText (tableIn file))
-    (refusalText (earlierLong file .number) (earlierLong file .place))
+earlierText file = replyText (earlierLong file) (earlierPlanText (tableIn file))

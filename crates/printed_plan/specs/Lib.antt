@@ -1,4 +1,4 @@
 pub mod Printing
+pub mod NowText
 pub mod ProgramInput
 pub mod EarlierText
-pub mod NowText

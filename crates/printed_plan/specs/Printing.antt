@@ -1,6 +1,8 @@
 -- The printed plan, as the bytes of its text: document 01, 'The printed plan'.
 use Prim.Native.Nat.{ℕ, suc, _+_, _*_}
+use mathlib.Core.Bool.{Bool}
 use mathlib.Core.List.{List, [], _∷_, _++_}
+use mathlib.Core.Path.{_≡_}
 use lib.Dec.{ltb, eqb}
 use lib.ListN.{length}
 use Rattle.base.specs.Limits.{maxTasks, maxPlanRuns}
@@ -8,10 +10,13 @@ use Rattle.base.specs.Tests.{pick}
 use Rattle.base.specs.Lent.{writtenFront}
 use Rattle.lines.specs.Text.{line, maxField}
 use Rattle.table.specs.declared.Table.{Table}
+use Rattle.table.specs.Kinds.{isNested}
 use Rattle.table.specs.Reading.{tableIn}
+use Rattle.schedule.specs.declared.Job.{Job}
 use Rattle.schedule.specs.declared.Run.{Run}
+use Rattle.orders.specs.KindOrder.{jobsLastFirst}
 use Rattle.plans.specs.declared.Planned.{Planned}
-use Rattle.plans.specs.Planning.{planMarks, planRuns, planOf, listsFor, planReply}
+use Rattle.plans.specs.Planning.{marksBy, planRunsBy, madeBy, listsFor, planReply}
 
 -- the words PLAN, DROP, RUN and REFUSED
 abbrev pub planWord : List ℕ
@@ -35,9 +40,13 @@ dropsFrom k (mark ∷ marks) = pick (eqb mark 0) (line dropWord (k ∷ [])) [] +
 unfoldable pub dropLines : List ℕ → List ℕ
 dropLines marks = dropsFrom 0 marks
 
--- the RUN line of a run: start, end, task
+-- the numbers of a run in a line: start, end, task
+abbrev pub runNumbers : Run → List ℕ
+runNumbers run = run .start ∷ run .end ∷ run .task ∷ []
+
+-- the RUN line of a run
 unfoldable pub runLine : Run → List ℕ
-runLine run = line runWord (run .start ∷ run .end ∷ run .task ∷ [])
+runLine run = line runWord (runNumbers run)
 
 -- the RUN lines of a run list
 unfoldable pub runLines : List Run → List ℕ
@@ -48,13 +57,21 @@ runLines (run ∷ runs) = runLine run ++ runLines runs
 unfoldable pub planLines : ℕ → ℕ → ℕ → List ℕ → List Run → List ℕ
 planLines tasks kept discarded marks runs = line planWord (tasks ∷ kept ∷ discarded ∷ []) ++ dropLines marks ++ runLines runs
 
--- the text of a table's plan at a launch tick
-unfoldable pub planText : ℕ → Table → List ℕ
-planText launch t = planLines (t .count) (planOf launch t .kept) (planOf launch t .discarded) (planMarks launch t) (planRuns launch t)
-
 -- the text of a refusal: its number and place
 unfoldable pub refusalText : ℕ → ℕ → List ℕ
 refusalText number place = line refusedWord (number ∷ place ∷ [])
+
+-- the text of a reply of planning: where its number is 0 that of the plan, which is given, and else that of the refusal
+unfoldable pub replyText : Planned → List ℕ → List ℕ
+replyText reply plan = pick (eqb (reply .number) 0) plan (refusalText (reply .number) (reply .place))
+
+-- the text of the plan of n jobs, of a nested table or of a similar one
+unfoldable pub planTextBy : Bool → ℕ → List Job → List ℕ
+planTextBy nested n jobs = planLines n (madeBy nested jobs .kept) (madeBy nested jobs .discarded) (marksBy nested n jobs) (planRunsBy nested jobs)
+
+-- the text of a table's plan at a launch tick
+unfoldable pub planText : ℕ → Table → List ℕ
+planText launch t = planTextBy (isNested t) (t .count) (jobsLastFirst launch t)
 
 -- the reply of planning a file at a launch tick, into lists that are long enough for every table
 unfoldable pub longReply : ℕ → List ℕ → Planned
@@ -62,9 +79,9 @@ longReply launch file = planReply launch file (listsFor maxTasks)
 
 -- the text printed of a file at a launch tick: its plan or its refusal
 unfoldable pub printed : ℕ → List ℕ → List ℕ
-printed launch file =
-    pick (eqb (longReply launch file .number) 0) (planText launch (tableIn file))
-    (refusalText (longReply launch file .number) (longReply launch file .place))
+printed launch file = replyText (longReply launch file) (planText launch (tableIn file))
+
+-- Printing a text into a lent list.
 
 -- a bound: no line is longer than a word of 7 bytes, 3 numbers of 20 digits, each with a space, and a newline
 abbrev pub maxLine : ℕ
@@ -74,10 +91,15 @@ maxLine = 7 + 3 * maxField + 1
 abbrev pub maxText : ℕ
 maxText = (1 + maxTasks + maxPlanRuns) * maxLine
 
--- how many bytes of a text are printed into a list of `room` places: none into one that is shorter than the bound above
-unfoldable pub printLength : List ℕ → ℕ → ℕ
-printLength text room = pick (ltb room maxText) 0 (length text)
+-- a text was printed: it stands at the front of the list, and the reply is its number of bytes
+pub record Prints (text old : List ℕ) (bytes : ℕ) (new : List ℕ) : Type 0 where
+  pub bytes-are : bytes ≡ length text
+  pub content : new ≡ writtenFront text old
 
--- what a lent list holds after that
-unfoldable pub printedOver : List ℕ → List ℕ → List ℕ
-printedOver text out = pick (ltb (length out) maxText) out (writtenFront text out)
+-- what of a text is printed into a list of `room` places: nothing where they are fewer than the bound above, and else the text
+unfoldable pub printedWithin : ℕ → List ℕ → List ℕ
+printedWithin room text = pick (ltb room maxText) [] text
+
+-- so a text was printed into a list of any length
+abbrev pub PrintsWithin : List ℕ → List ℕ → ℕ → List ℕ → Type 0
+PrintsWithin text old bytes new = Prints (printedWithin (length old) text) old bytes new

@@ -1,5 +1,5 @@
-// The programs, each as one function over file descriptors. The sizes of what is held come with the types of the functions that are called: a program
-// can't choose them.
+// The programs, each as one function over file descriptors. How many bytes `plan`, `now` and `table_to_text` read of their input comes with the type of the
+// function that is called: they can't choose it. `table_from_text` reads a text into a buffer, and refuses one that fills it.
 use console::NOW_INPUT_BYTES;
 use report::INPUT_BYTES;
 use report::MAX_TEXT;
@@ -12,19 +12,19 @@ pub use to_text::table_to_text;
 
 // Plans the table file of an input at the launch tick before it, and prints its plan or its refusal.
 pub fn plan(input: i32, output: i32) {
-    let mut held = [0u8; INPUT_BYTES];
-    let filled = io::read_full(input, &mut held);
+    let mut first = [0u8; INPUT_BYTES];
+    let filled = io::read_full(input, &mut first);
     let mut text = [0u8; MAX_TEXT];
-    let printed = report::print_held(held, filled, &mut text);
+    let printed = report::print_from_first(first, filled, &mut text);
     io::write_all(output, &text[..printed]);
 }
 
 // Plans the table file of an input at the launch tick before it, and prints what runs at the tick that stands there too, what runs next and
 // the runs of so many ticks from it on, or the refusal.
 pub fn now(input: i32, output: i32) {
-    let mut held = [0u8; NOW_INPUT_BYTES];
-    let filled = io::read_full(input, &mut held);
+    let mut first = [0u8; NOW_INPUT_BYTES];
+    let filled = io::read_full(input, &mut first);
     let mut text = [0u8; MAX_TEXT];
-    let printed = console::print_now_held(held, filled, &mut text);
+    let printed = console::print_now_from_first(first, filled, &mut text);
     io::write_all(output, &text[..printed]);
 }

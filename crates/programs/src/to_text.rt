@@ -2,7 +2,7 @@
 // deadline frame, mandatory ticks, optional ticks. Where reading refuses the file, nothing is written, and one line of errors gives the number, the
 // place and the cause.
 use conversion::MAX_TABLE_TEXT;
-use table::HELD_BYTES;
+use table::FILE_BYTES_READ;
 use table::Written;
 
 // What a refusal's number and place mean.
@@ -44,10 +44,10 @@ fn refused(reply: Written, errors: i32) {
 
 // Shows the table file of an input as text, or says why not.
 pub fn table_to_text(input: i32, output: i32, errors: i32) {
-    let mut held = [0u8; HELD_BYTES];
-    let filled = io::read_full(input, &mut held);
+    let mut first = [0u8; FILE_BYTES_READ];
+    let filled = io::read_full(input, &mut first);
     let mut text = [0u8; MAX_TABLE_TEXT];
-    let reply = conversion::to_text_held(held, filled, &mut text);
+    let reply = conversion::to_text_from_first(first, filled, &mut text);
     if reply.number != 0 {
         refused(reply, errors);
         return;

@@ -1,1 +1,1 @@
-pub mod SpanLaws
+pub mod BoundsLaws

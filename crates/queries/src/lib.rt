@@ -2,26 +2,29 @@
 // a tick with an interval, and the check that tells what the queries and the busy count refuse. The records are copied into columns once, and the search is
 // done there.
 ghost use mathlib.Core.Path.{_≡_};
-ghost use Rattle.schedule.specs.RunCheck.{runsAnswer};
-ghost use Rattle.schedule.specs.Queries.{runAtTick, runFromTick, HoldsTick, FirstFrom, touching, stretchOf, TouchingPart};
-ghost use Rattle.records.specs.RecordColumns.{HeldColumns, runsHeld};
-ghost use Rattle.queries.specs.Spans.{spanOf};
+ghost use Rattle.schedule.specs.RunCheck.{checkAnswer};
+ghost use Rattle.schedule.specs.Queries.{runAtTick, runFromTick, HoldsTick, FirstFrom, touching, stretchOf, TouchingStretch};
+ghost use Rattle.records.specs.RecordColumns.{LegalColumns, copiedRuns};
+ghost use Rattle.queries.specs.StretchBounds.{boundsOf};
 use records::RunColumns;
 use schedule::Found;
 use schedule::Run;
 use schedule::RunsAnswer;
 use schedule::Stretch;
 
-// A part of a list: from one index to another, which is excluded.
-pub struct Span {
-    pub from: usize,
-    pub to: usize,
+// The two ends of a stretch of a list: from one index to another, which is excluded.
+struct Bounds {
+    from: usize,
+    to: usize,
 }
 
-// The check of runs that were copied into columns.
-pub fn check_held(columns: RunColumns) -> RunsAnswer
-    requires { ⌜ HeldColumns columns ⌝ }
-    ensures { λ r. ⌜ r ≡ runsAnswer (runsHeld columns) ⌝ }
+// The four functions below take runs that were copied into columns. They are public for the crate `exports`, which calls them as the queries do, and
+// `stretch_copied` for `schedule_test` too.
+
+// The check.
+pub fn check_copied(columns: RunColumns) -> RunsAnswer
+    requires { ⌜ LegalColumns columns ⌝ }
+    ensures { λ r. ⌜ r ≡ checkAnswer (copiedRuns columns) ⌝ }
 {
     let n = columns.count;
     let starts = columns.starts;
@@ -29,10 +32,10 @@ pub fn check_held(columns: RunColumns) -> RunsAnswer
     checking::check(&starts[..n], &ends[..n])
 }
 
-// The run at a tick, of runs that were copied into columns.
-pub fn run_at_held(columns: RunColumns, tick: u32) -> Found
-    requires { ⌜ HeldColumns columns ⌝ }
-    ensures { λ r. ⌜ r ≡ runAtTick (runsHeld columns) tick ⌝ }
+// The run at a tick.
+pub fn run_at_copied(columns: RunColumns, tick: u32) -> Found
+    requires { ⌜ LegalColumns columns ⌝ }
+    ensures { λ r. ⌜ r ≡ runAtTick (copiedRuns columns) tick ⌝ }
 {
     let n = columns.count;
     let starts = columns.starts;
@@ -41,10 +44,10 @@ pub fn run_at_held(columns: RunColumns, tick: u32) -> Found
     searching::run_at(&starts[..n], &ends[..n], &tasks[..n], tick)
 }
 
-// The first run that starts at a tick or after it, of runs that were copied into columns.
-pub fn run_from_held(columns: RunColumns, tick: u32) -> Found
-    requires { ⌜ HeldColumns columns ⌝ }
-    ensures { λ r. ⌜ r ≡ runFromTick (runsHeld columns) tick ⌝ }
+// The first run that starts at a tick or after it.
+pub fn run_from_copied(columns: RunColumns, tick: u32) -> Found
+    requires { ⌜ LegalColumns columns ⌝ }
+    ensures { λ r. ⌜ r ≡ runFromTick (copiedRuns columns) tick ⌝ }
 {
     let n = columns.count;
     let starts = columns.starts;
@@ -53,10 +56,10 @@ pub fn run_from_held(columns: RunColumns, tick: u32) -> Found
     searching::run_from(&starts[..n], &ends[..n], &tasks[..n], tick)
 }
 
-// Where the runs stand that share a tick with an interval, of runs that were copied into columns.
-pub fn stretch_held(columns: RunColumns, a: u32, b: u32) -> Stretch
-    requires { ⌜ HeldColumns columns ⌝ }
-    ensures { λ r. ⌜ r ≡ stretchOf (runsHeld columns) a b ⌝ }
+// Where the runs stand that share a tick with an interval.
+pub fn stretch_copied(columns: RunColumns, a: u32, b: u32) -> Stretch
+    requires { ⌜ LegalColumns columns ⌝ }
+    ensures { λ r. ⌜ r ≡ stretchOf (copiedRuns columns) a b ⌝ }
 {
     let n = columns.count;
     let starts = columns.starts;
@@ -64,13 +67,13 @@ pub fn stretch_held(columns: RunColumns, a: u32, b: u32) -> Stretch
     searching::stretch(&starts[..n], &ends[..n], a, b)
 }
 
-// The same, by the two ends of the stretch.
-fn span_held(columns: RunColumns, a: u32, b: u32) -> Span
-    requires { ⌜ HeldColumns columns ⌝ }
-    ensures { λ r. ⌜ r ≡ spanOf (stretchOf (runsHeld columns) a b) ⌝ }
+// The two ends of the stretch of runs that share a tick with an interval, of runs that were copied into columns.
+fn bounds_copied(columns: RunColumns, a: u32, b: u32) -> Bounds
+    requires { ⌜ LegalColumns columns ⌝ }
+    ensures { λ r. ⌜ r ≡ boundsOf (stretchOf (copiedRuns columns) a b) ⌝ }
 {
-    let stretch = stretch_held(columns, a, b);
-    Span {
+    let stretch = stretch_copied(columns, a, b);
+    Bounds {
         from: stretch.first,
         to: stretch.first + stretch.runs,
     }
@@ -78,9 +81,9 @@ fn span_held(columns: RunColumns, a: u32, b: u32) -> Span
 
 // What the queries and the busy count refuse of a run list: 13, then 15.
 pub fn check(runs: &[Run]) -> RunsAnswer
-    ensures { λ r. ⌜ r ≡ runsAnswer (now (runs .entry)) ⌝ }
+    ensures { λ r. ⌜ r ≡ checkAnswer (now (runs .entry)) ⌝ }
 {
-    check_held(records::columns_of(runs))
+    check_copied(records::columns_of(runs))
 }
 
 // The run that holds a tick, or none.
@@ -88,7 +91,7 @@ pub fn run_at(runs: &[Run], tick: u32) -> Found
     ensures reply { λ r. ⌜ r ≡ runAtTick (now (runs .entry)) tick ⌝ }
     ensures holds_tick { λ r. ⌜ HoldsTick (now (runs .entry)) tick r ⌝ }
 {
-    run_at_held(records::columns_of(runs), tick)
+    run_at_copied(records::columns_of(runs), tick)
 }
 
 // The first run that starts at a tick or after it, or none.
@@ -96,15 +99,15 @@ pub fn run_from(runs: &[Run], tick: u32) -> Found
     ensures reply { λ r. ⌜ r ≡ runFromTick (now (runs .entry)) tick ⌝ }
     ensures first_from { λ r. ⌜ FirstFrom (now (runs .entry)) tick r ⌝ }
 {
-    run_from_held(records::columns_of(runs), tick)
+    run_from_copied(records::columns_of(runs), tick)
 }
 
 // The stretch of the caller's own run list whose runs share a tick with the interval from `a` to `b`; it is empty where the check refuses the list. Where
 // in the caller's list an empty stretch lies is left free.
 pub fn touching(runs: &[Run], a: u32, b: u32) -> &[Run]
     ensures runs_are { λ r. ⌜ now r ≡ touching (now (runs .entry)) a b ⌝ }
-    ensures unbroken { λ r. ⌜ TouchingPart a b (now (runs .entry)) (now r) ⌝ }
+    ensures unbroken { λ r. ⌜ TouchingStretch a b (now (runs .entry)) (now r) ⌝ }
 {
-    let span = span_held(records::columns_of(runs), a, b);
-    records::part(runs, span.from, span.to)
+    let bounds = bounds_copied(records::columns_of(runs), a, b);
+    records::stretch(runs, bounds.from, bounds.to)
 }

@@ -19,15 +19,15 @@ use Rattle.table.specs.declared.Answer.the-variants.{Accepted}
 use Rattle.table.specs.Tables.{noTask, noTable, taskAt, tableOf}
 use Rattle.table.specs.Answers.{isAccepted}
 use Rattle.table.specs.Layout.{headerWidth, taskStart}
-use Rattle.table.specs.Kinds.{windowsAnswer, windowAnswer}
-use Rattle.table.specs.WindowColumns.{windowAt, FramesOf}
-use Rattle.reading.specs.Frames.{FramesIn}
+use Rattle.table.specs.Kinds.{windowsAnswer, tableWindowsAnswer}
+use Rattle.table.specs.WindowColumns.{FramesOf}
+use Rattle.reading.specs.Frames.{FramesIn, windowIn}
 use Rattle.table.proofs.AnswerLaws.{firstRefusal-known}
-use Rattle.table.proofs.FileLaws.{count-known}
+use Rattle.table.proofs.RowFiles.{count-known}
 use Rattle.table.proofs.RoundTrip.{head-known, tableIn-count}
 use Rattle.table.proofs.TableLaws.{taskAt-below}
 use Rattle.table.proofs.WindowLaws.{answer-columns}
-use Rattle.table.specs.Reading.{countIn, pIn, qIn, taskIn, tableIn, headAnswer, readAnswer, reading}
+use Rattle.table.specs.Reading.{countIn, pIn, qIn, taskIn, tableIn, headAnswer, readAnswer, readReply}
 
 -- the header's numbers and the tasks that were taken make the table of the file
 pub table-taken : (s : List ℕ) (count : ℕ) (t : Table) → count ≡ countIn s → t .count ≡ count → t .p ≡ pIn s → t .q ≡ qIn s
@@ -65,9 +65,9 @@ columns-taken s frames few held k l =
 
 -- what the windows of the frames that were taken answer is what those of the file's table answer
 pub windows-taken : (s : List ℕ) (count : ℕ) (frames : List ℕ) → countIn s ≤ maxTasks → count ≡ countIn s → FramesIn (taskIn s) (countIn s) frames
-    → windowsAnswer (windowAt (take maxTasks frames) (drop maxTasks frames)) count ≡ windowAnswer (tableIn s)
+    → windowsAnswer (windowIn frames) count ≡ tableWindowsAnswer (tableIn s)
 windows-taken s count frames few c held =
-    ap (windowsAnswer (windowAt (take maxTasks frames) (drop maxTasks frames))) (c ∙ sym (tableIn-count s))
+    ap (windowsAnswer (windowIn frames)) (c ∙ sym (tableIn-count s))
     ∙ answer-columns (tableIn s) (take maxTasks frames) (drop maxTasks frames) (columns-taken s frames few held)
 
 -- a header that is accepted has a count in range, and the file the bits of its tasks
@@ -88,25 +88,25 @@ unfolding readAnswer
 head-refused s e = rw e
 
 -- and past it the windows do
-pub head-accepted : (s : List ℕ) → headAnswer s ≡ Accepted → windowAnswer (tableIn s) ≡ readAnswer s
+pub head-accepted : (s : List ℕ) → headAnswer s ≡ Accepted → tableWindowsAnswer (tableIn s) ≡ readAnswer s
 unfolding readAnswer
 head-accepted s e = rw e
 
 -- an accepted file has an accepted header
 pub read-head : (s : List ℕ) → readAnswer s ≡ Accepted → headAnswer s ≡ Accepted
 unfolding readAnswer
-read-head s e = firstRefusal-known (headAnswer s) (windowAnswer (tableIn s)) e .0
+read-head s e = firstRefusal-known (headAnswer s) (tableWindowsAnswer (tableIn s)) e .0
 
 -- the table of the reply, on a refusal and on none
-pub table-refused : (s : List ℕ) → isAccepted (readAnswer s) ≡ false → noTable ≡ reading s .table
-unfolding reading
+pub table-refused : (s : List ℕ) → isAccepted (readAnswer s) ≡ false → noTable ≡ readReply s .table
+unfolding readReply
 table-refused s e = rw e
 
-pub table-accepted : (s : List ℕ) → readAnswer s ≡ Accepted → tableIn s ≡ reading s .table
-unfolding reading
+pub table-accepted : (s : List ℕ) → readAnswer s ≡ Accepted → tableIn s ≡ readReply s .table
+unfolding readReply
 table-accepted s e = rw e
 
 -- a reply is known by its answer and its table
-pub reply-is : (r : Reading) (s : List ℕ) → r .answer ≡ readAnswer s → r .table ≡ reading s .table → r ≡ reading s
-unfolding reading
+pub reply-is : (r : Reading) (s : List ℕ) → r .answer ≡ readAnswer s → r .table ≡ readReply s .table → r ≡ readReply s
+unfolding readReply
 reply-is r s a t = λ i. record { answer = a i; table = t i }

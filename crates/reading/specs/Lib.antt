@@ -1,3 +1,3 @@
 pub mod Headers
 pub mod Frames
-pub mod Forward
+pub mod AnyKind

@@ -43,36 +43,36 @@ use denote.Triple.Clauses.{Ended, Clauses, AtExit, atExit, lasts, ensured, closi
 use denote.Triple.Spec.{tripleOf}
 use denote.Triple.Walked.{says}
 use denote.Triple.Call.{calls-at}
-use Rattle.records.specs.RecordColumns.{heldRuns}
+use Rattle.records.specs.RecordColumns.{maxCopied}
 use Rattle.records.proofs.Walking.{returned}
-use Rattle.records.proofs.part as part
+use Rattle.records.proofs.stretch as stretch
 use Rattle.schedule.specs.declared.Run.{Run}
 use Rattle.schedule.proofs.Run as mRun
 use Rattle.schedule.proofs.Run.Laws as mRun′
 
 -- the array's type, its machine value, and its laws
 abbrev pub Rows : RattleType
-Rows = Array mRun.the-row heldRuns
+Rows = Array mRun.the-row maxCopied
 
 abbrev pub rowsVals : List Run → List Val
 rowsVals rows = array-vals (LL.vals mRun.the-type mRun′.the-laws) rows
 
 pub rows-tells : Tells Rows (Is Rows) rowsVals
-rows-tells = array-tells mRun.the-row (LL.vals mRun.the-type mRun′.the-laws) (LL.tells mRun.the-type mRun′.the-laws) heldRuns
+rows-tells = array-tells mRun.the-row (LL.vals mRun.the-type mRun′.the-laws) (LL.tells mRun.the-type mRun′.the-laws) maxCopied
 
 pub rows-lawful : {M : Type 1} (𝓤 : URA M) (H : Heap 𝓤) (A : Atoms 𝓤) → Given 𝓤 H A → Lawful 𝓤 H A Rows
-rows-lawful 𝓤 H A W = array-lawful 𝓤 H A W mRun.the-row (LL.lawful mRun.the-type mRun′.the-laws 𝓤 H A W) heldRuns
+rows-lawful 𝓤 H A W = array-lawful 𝓤 H A W mRun.the-row (LL.lawful mRun.the-type mRun′.the-laws 𝓤 H A W) maxCopied
 
 -- its type in MIR
 abbrev rowsTy : Ty
-rowsTy = tyArray mRun′.mir heldRuns
+rowsTy = tyArray mRun′.mir maxCopied
 
 -- the list that is lent of the local l under the name γ, and its machine value
 abbrev lentRows : List Run → ℕ → GName → RefT (List Run)
 lentRows rows l γ = record { ptr = (l, 0); name = γ; now = rows }
 
 abbrev lentVal : ℕ → Val
-lentVal l = sliceVal (l, 0) heldRuns
+lentVal l = sliceVal (l, 0) maxCopied
 
 -- what is owned of a list that is lent for the lifetime α, and what the lender keeps
 abbrev pub Lent : ℕ → RefT (List Run) → Val → Fml
@@ -86,7 +86,7 @@ abbrev pub Token : {M : Type 1} {𝓤 : URA M} → ℕ → Item 𝓤
 Token α = ‵ (flft (α ∷ []) fullShare) ⊛ ‵ ftrue
 
 -- the array is no longer than a list in memory may be
-room : (rows : List Run) → length rows ≡ heldRuns → Room mRun.the-row (length rows)
+room : (rows : List Run) → length rows ≡ maxCopied → Room mRun.the-row (length rows)
 room rows e = subst (Room mRun.the-row) (sym e) (lit< tt, lit< tt)
 
 -- a contract as its clauses make it
@@ -112,15 +112,15 @@ module _ {M : Type 1} {𝓤 : URA M} {H : Heap 𝓤} {A : Atoms 𝓤} {K : Type 
   module _ {G : Goal 𝓤 H} where
     -- the array in the local l is lent
     pub lends : K → Soaks G → (rows : List Run) (l : ℕ) → Is Rows rows (rowsVals rows)
-        → ((α : ℕ) (γ : GName) → length rows ≡ heldRuns → Seq K W (Token α ∷ ‵ (Lent α (lentRows rows l γ) (lentVal l)) ∷ ‵ (Lender rows l α) ∷ Γ) G)
+        → ((α : ℕ) (γ : GName) → length rows ≡ maxCopied → Seq K W (Token α ∷ ‵ (Lent α (lentRows rows l γ) (lentVal l)) ∷ ‵ (Lender rows l α) ∷ Γ) G)
         → Seq K W (‵ (fat fullShare rowsTy l 0 (only (rowsVals rows))) ∷ Γ) G
     unfolding partOf
     lends t z rows l is k =
         use1 W (‵ (cellAt fullShare (Rows .mir) (rowsVals rows) l 0)) (W .laws .at-raw fullShare rowsTy l 0 (only (rowsVals rows))) $
-        owned t Rows (Is Rows) (array-makes 𝓤 H A W mRun.the-row (LL.makes mRun.the-type mRun′.the-plain 𝓤 H A) heldRuns) rows (rowsVals rows) is $
+        owned t Rows (Is Rows) (array-makes 𝓤 H A W mRun.the-row (LL.makes mRun.the-type mRun′.the-plain 𝓤 H A) maxCopied) rows (rowsVals rows) is $
         move t (1 ∷ 0 ∷ []) $ fjoin t $ fpack t (List Val) (λ vs. fsep (cellAt fullShare (Rows .mir) vs l 0) (Rows .own rows vs)) (rowsVals rows) $
-        use1 W (‵ (arr-parts (shares mRun.the-row) heldRuns .part fullShare rows l 0))
-        (array-apart 𝓤 H A W mRun.the-row fullShare tt heldRuns rows l 0) $ fsplit t $ feqL t (λ long.
+        use1 W (‵ (arr-parts (shares mRun.the-row) maxCopied .part fullShare rows l 0))
+        (array-apart 𝓤 H A W mRun.the-row fullShare tt maxCopied rows l 0) $ fsplit t $ feqL t (λ long.
         feqI t ℕ (length rows) (length rows) refl $ fjoin t $
         lft-new t z (λ α. move t (1 ∷ []) $
         use1 W (later (some (λ (γ : GName). ‵ (Lent α (lentRows rows l γ) (sliceVal (l, 0) (length rows))) ⊛ ‵ (Lender rows l α))))
@@ -129,13 +129,13 @@ module _ {M : Type 1} {𝓤 : URA M} {H : Heap 𝓤} {A : Atoms 𝓤} {K : Type 
         nothing t $ move t (3 ∷ 0 ∷ []) $ join t $ k α γ long)))
 
     -- the lifetime is over, and the array is back
-    pub comes-back : K → Soaks G → (rows : List Run) {l α : ℕ} → length rows ≡ heldRuns
+    pub comes-back : K → Soaks G → (rows : List Run) {l α : ℕ} → length rows ≡ maxCopied
         → Step K W (‵ (fat fullShare rowsTy l 0 (only (rowsVals rows))) ∷ Γ) G (Token α ∷ ‵ (Lender rows l α) ∷ Γ) G
     unfolding partOf
     comes-back t z rows {l} {α} long =
         step (λ s. split t $ move t (1 ∷ []) $ drop t $ lft-end t z $ lent-back t z $ fsplit t $ drop t $
-        feqI t ℕ (length rows) heldRuns long $ fjoin t $
-        use1 W (‵ (partAt Rows fullShare rows l 0)) (array-whole 𝓤 H A W mRun.the-row fullShare heldRuns rows l 0) $ fpick t (λ vs. fsplit t $
+        feqI t ℕ (length rows) maxCopied long $ fjoin t $
+        use1 W (‵ (partAt Rows fullShare rows l 0)) (array-whole 𝓤 H A W mRun.the-row fullShare maxCopied rows l 0) $ fpick t (λ vs. fsplit t $
         spelt t Rows (Is Rows) (shows 𝓤 H A Rows) rowsVals rows-tells fullShare rows vs l 0 $ move t (1 ∷ []) $ drop t $
         use1 W (‵ (fat fullShare rowsTy l 0 (only (rowsVals rows)))) (W .laws .raw-at fullShare rowsTy l 0 (only (rowsVals rows))) $ s))
 
@@ -178,15 +178,15 @@ asked 𝓤 H A W α r v Ts xs vs h =
     qed W (Token α ∷ ‵ (Lent α r v) ∷ []) ∵ use0 W (‵ (owns Ts xs vs)) h $ move ! (2 ∷ 0 ∷ []) $ fjoin ! $ move ! (1 ∷ 0 ∷ []) $ join ! $
     nothing ! $ move ! (1 ∷ 0 ∷ []) $ join ! $ done !
 
--- The call of `records::part`, which gives the list of the array's first runs.
+-- The call of `records::stretch`, which gives the list of the array's first runs.
 module _ {M : Type 1} (𝓤 : URA M) (H : Heap 𝓤) (A : Atoms 𝓤) (at-mem : Memory → SProp 𝓤) (run : Routine → Fun 𝓤) where
   -- the contract
-  abbrev pub Parts : Contract 𝓤
-  Parts = By 𝓤 H A part.ended (part.clauses 𝓤 H A at-mem run)
+  abbrev pub Stretches : Contract 𝓤
+  Stretches = By 𝓤 H A stretch.ended (stretch.clauses 𝓤 H A at-mem run)
 
   -- what it is passed, and what it asks
-  abbrev to-part : List Run → ℕ → ℕ → ℕ → GName → Parts .Ghost
-  to-part rows count l α γ = (
+  abbrev to-stretch : List Run → ℕ → ℕ → ℕ → GName → Stretches .Ghost
+  to-stretch rows count l α γ = (
     (
       (α ∷ [], tt),
       (fullShare, tt),
@@ -197,9 +197,9 @@ module _ {M : Type 1} (𝓤 : URA M) (H : Heap 𝓤) (A : Atoms 𝓤) (at-mem : 
     tt,
   )
 
-  goes-part : (W : Given 𝓤 H A) (rows : List Run) (count l α : ℕ) (γ : GName) → Is usize count (vint w64 count ∷ []) → count ≤ length rows
-      → ent 𝓤 (⋆ 𝓤 H A (Token α ∷ ‵ (Lent α (lentRows rows l γ) (lentVal l)) ∷ [])) (Parts .pre (to-part rows count l α γ))
-  goes-part W rows count l α γ gc few =
+  goes-stretch : (W : Given 𝓤 H A) (rows : List Run) (count l α : ℕ) (γ : GName) → Is usize count (vint w64 count ∷ []) → count ≤ length rows
+      → ent 𝓤 (⋆ 𝓤 H A (Token α ∷ ‵ (Lent α (lentRows rows l γ) (lentVal l)) ∷ [])) (Stretches .pre (to-stretch rows count l α γ))
+  goes-stretch W rows count l α γ gc few =
       qed W (Token α ∷ ‵ (Lent α (lentRows rows l γ) (lentVal l)) ∷ []) ∵ says ! (zero-le, few) $ frame ! $ nothing ! $
       owned ! usize (Is usize) (uint-makes 𝓤 H A W w64) count _ gc $ fjoin ! $ owned ! usize (Is usize) (uint-makes 𝓤 H A W w64) 0 _ (refl, lit< tt) $
       fjoin ! $ move ! (1 ∷ 0 ∷ []) $ fjoin ! $ done !
@@ -207,16 +207,16 @@ module _ {M : Type 1} (𝓤 : URA M) (H : Heap 𝓤) (A : Atoms 𝓤) (at-mem : 
 module _ {M : Type 1} {𝓤 : URA M} {H : Heap 𝓤} {A : Atoms 𝓤} {K : Type 0} {W : Given 𝓤 H A} {Γ : List (Item 𝓤)} where
   module _ {E : Env 𝓤 H} {C : Calls 𝓤 H} {Λ : Loops 𝓤 H} {q : Post 𝓤 H} {f : Name} {xs : List Operand} {d : Place} {rest : Body} where
     -- the call: what is owned of the array's list is given up for what is owned of the list r of its first runs
-    pub asks-part : K → FmC 𝓤 H (W .laws) C → (at-mem : Memory → SProp 𝓤) (run : Routine → Fun 𝓤) → Triple 𝓤 (C f) (Parts 𝓤 H A at-mem run)
-        → (rows : List Run) (count l α : ℕ) (γ : GName) → Is usize count (vint w64 count ∷ []) → count ≤ heldRuns → length rows ≡ heldRuns
-        → Opds K W (raw (Parts 𝓤 H A at-mem run .pre (to-part 𝓤 H A at-mem run rows count l α γ)) ∷ ‵ (Lent α (lentRows rows l γ) (lentVal l)) ∷ Γ)
+    pub asks-stretch : K → FmC 𝓤 H (W .laws) C → (at-mem : Memory → SProp 𝓤) (run : Routine → Fun 𝓤) → Triple 𝓤 (C f) (Stretches 𝓤 H A at-mem run)
+        → (rows : List Run) (count l α : ℕ) (γ : GName) → Is usize count (vint w64 count ∷ []) → count ≤ maxCopied → length rows ≡ maxCopied
+        → Opds K W (raw (Stretches 𝓤 H A at-mem run .pre (to-stretch 𝓤 H A at-mem run rows count l α γ)) ∷ ‵ (Lent α (lentRows rows l γ) (lentVal l)) ∷ Γ)
         E xs (lentVal l ∷ vint w64 0 ∷ vint w64 count ∷ [])
         → ((v : Val) (r : RefT (List Run)) → r .now ≡ take count rows → Is (ShrSlice (named 0) (α ∷ []) mRun.the-row) r (v ∷ [])
         → Seq K W (Token α ∷ ‵ (Lent α r v) ∷ Γ) (lands C Λ E d v rest q))
         → Seq K W (Token α ∷ ‵ (Lent α (lentRows rows l γ) (lentVal l)) ∷ Γ) (runs C Λ E (seq (call f xs d) rest) q)
-    asks-part t framed at-mem run known rows count l α γ gc few long args k =
-        asks-list t framed part.ended (part.clauses 𝓤 H A at-mem run) known (to-part 𝓤 H A at-mem run rows count l α γ)
+    asks-stretch t framed at-mem run known rows count l α γ gc few long args k =
+        asks-list t framed stretch.ended (stretch.clauses 𝓤 H A at-mem run) known (to-stretch 𝓤 H A at-mem run rows count l α γ)
         α (lentRows rows l γ) (lentVal l)
-        (goes-part 𝓤 H A at-mem run W rows count l α γ gc (subst (λ (n : ℕ). count ≤ n) (sym long) few)) (id⊢ 𝓤 _)
+        (goes-stretch 𝓤 H A at-mem run W rows count l α γ gc (subst (λ (n : ℕ). count ≤ n) (sym long) few)) (id⊢ 𝓤 _)
         (λ r. r .now ≡ take (count - 0) (drop-list 0 rows)) (λ r e. id⊢ 𝓤 _) args (λ v r e is. move t (2 ∷ []) $ drop t $ move t (1 ∷ 0 ∷ []) $
         k v r (e ∙ ap (λ (n : ℕ). take n rows) (sub-zero count)) is)

@@ -5,7 +5,7 @@ use Rattle.schedule.specs.declared.Run.{Run}
 use Rattle.schedule.specs.declared.RunsAnswer.{RunsAnswer}
 use Rattle.schedule.specs.declared.Found.{Found}
 use Rattle.schedule.specs.declared.Busy.{Busy}
-use Rattle.schedule.specs.RunCheck.{runsAnswer}
+use Rattle.schedule.specs.RunCheck.{checkAnswer}
 use Rattle.schedule.specs.Queries.{runAtTick, runFromTick, touching}
 use Rattle.schedule.specs.BusyCount.{busyReply}
 use Rattle.records.specs.declared.RunColumns.{RunColumns}
@@ -19,4 +19,4 @@ gatheredOf check at from busy touching = record { check = check; at = at; from =
 -- the answers for a run list, a tick, and the interval from a to b
 abbrev pub answersOf : List Run → ℕ → ℕ → ℕ → Answers
 answersOf runs tick a b =
-    gatheredOf (runsAnswer runs) (runAtTick runs tick) (runFromTick runs tick) (busyReply runs a b) (columnsOf (touching runs a b))
+    gatheredOf (checkAnswer runs) (runAtTick runs tick) (runFromTick runs tick) (busyReply runs a b) (columnsOf (touching runs a b))

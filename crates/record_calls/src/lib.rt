@@ -3,10 +3,10 @@
 ghost use mathlib.Core.Path.{_≡_};
 ghost use Prim.Native.Nat.{_≤_};
 ghost use lib.ListN.{take};
-ghost use Rattle.records.specs.RecordColumns.{heldRuns, HeldColumns, runsHeld};
-ghost use Rattle.schedule.specs.Judging.{judged};
+ghost use Rattle.records.specs.RecordColumns.{maxCopied, LegalColumns, copiedRuns};
+ghost use Rattle.schedule.specs.Judging.{judgeReply};
 ghost use Rattle.record_calls.specs.Answers.{gatheredOf, answersOf};
-use records::HELD_RUNS;
+use records::MAX_COPIED;
 use records::RunColumns;
 use schedule::Busy;
 use schedule::Found;
@@ -25,12 +25,12 @@ pub struct Answers {
     pub touching: RunColumns,
 }
 
-// An array whose first runs are those that columns hold.
-pub fn rows_of(columns: RunColumns) -> [Run; HELD_RUNS]
-    requires { ⌜ HeldColumns columns ⌝ }
-    ensures { λ r. ⌜ take (columns .count) r ≡ runsHeld columns ⌝ }
+// An array whose first runs are those that were copied into columns.
+pub fn rows_of(columns: RunColumns) -> [Run; MAX_COPIED]
+    requires { ⌜ LegalColumns columns ⌝ }
+    ensures { λ r. ⌜ take (columns .count) r ≡ copiedRuns columns ⌝ }
 {
-    let mut rows = [NO_RUN; HELD_RUNS];
+    let mut rows = [NO_RUN; MAX_COPIED];
     let count = columns.count;
     let mut i: usize = 0;
     while i < count {
@@ -58,11 +58,11 @@ fn gathered(check: RunsAnswer, at: Found, from: Found, busy: Busy, touching: Run
 }
 
 // What the entry points answer for the first runs of an array.
-pub fn ask_rows(rows: [Run; HELD_RUNS], count: usize, tick: u32, a: u32, b: u32) -> Answers
-    requires { ⌜ count ≤ heldRuns ⌝ }
+pub fn ask_rows(rows: [Run; MAX_COPIED], count: usize, tick: u32, a: u32, b: u32) -> Answers
+    requires { ⌜ count ≤ maxCopied ⌝ }
     ensures { λ r. ⌜ r ≡ answersOf (take count rows) tick a b ⌝ }
 {
-    let runs = records::part(&rows, 0, count);
+    let runs = records::stretch(&rows, 0, count);
     let check = queries::check(runs);
     let at = queries::run_at(runs, tick);
     let from = queries::run_from(runs, tick);
@@ -76,11 +76,11 @@ pub fn judge_rows(
     file: &[u8],
     launch: u32,
     marks: &[u8],
-    rows: [Run; HELD_RUNS],
+    rows: [Run; MAX_COPIED],
     count: usize,
 ) -> Judged
-    requires { ⌜ count ≤ heldRuns ⌝ }
-    ensures { λ r. ⌜ r ≡ judged launch (now (file .entry)) (now (marks .entry)) (take count rows) ⌝ }
+    requires { ⌜ count ≤ maxCopied ⌝ }
+    ensures { λ r. ⌜ r ≡ judgeReply launch (now (file .entry)) (now (marks .entry)) (take count rows) ⌝ }
 {
-    judging::judge(file, launch, marks, records::part(&rows, 0, count))
+    judging::judge(file, launch, marks, records::stretch(&rows, 0, count))
 }

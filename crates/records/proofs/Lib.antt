@@ -1,5 +1,5 @@
 pub mod RecordLaws
-pub mod HeldLaws
+pub mod CopyLaws
 pub mod Walking
 pub mod NumberParameters
 pub mod ColumnsCall

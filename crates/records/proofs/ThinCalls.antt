@@ -1,8 +1,7 @@
--- Functions over a slice of run records that turn it to columns and pass these on: `h(records::columns_of(runs), p..)`, where h asks that the columns
--- hold their runs, and returns the reply of the runs that they hold. Such a function returns the reply of the whole list, where all lists of too many
+-- Functions over a slice of run records that turn it to columns and pass these on: `h(records::columns_of(runs), p..)`, where h asks for legal
+-- columns, and returns the reply of the runs that were copied into them. Such a function returns the reply of the whole list, where all lists of too many
 -- runs get one reply, and it may promise whatever follows from that (`promise`). It is shown here once, for any number of further
 -- parameters p, all of them u32, by a walk of the MIR. All that the walk knows of what is called is that it meets its contract.
--- Assumes nothing.
 use mathlib.Core.Path.{_≡_, refl, sym, _∙_, ap, subst}
 use Prim.Native.Nat.{ℕ, suc}
 use mathlib.Core.List.{List, [], _∷_}
@@ -40,9 +39,9 @@ use denote.Exit.{yes}
 use Rattle.schedule.specs.declared.Run.{Run}
 use Rattle.schedule.proofs.ManyRuns.{OneForMany}
 use Rattle.schedule.proofs.Run as mRun
-use Rattle.records.specs.RecordColumns.{runsHeld, HeldColumns}
+use Rattle.records.specs.RecordColumns.{copiedRuns, LegalColumns}
 use Rattle.records.specs.declared.RunColumns.{RunColumns}
-use Rattle.records.proofs.HeldLaws.{columns-held, held-reply}
+use Rattle.records.proofs.CopyLaws.{columns-legal, copied-reply}
 use Rattle.records.proofs.Walking.{spot, value, returned, says-all}
 use Rattle.records.proofs.ColumnsCall.{value-of, sliceLocal, columnsLocal, lent, said, First, calls-columns, placed}
 use Rattle.records.proofs.NumberParameters.{Numbers, slots, stays, go, Fit, rows, numbers, args, numbers-args, spells, tells, values, fit, last, last-fits}
@@ -80,8 +79,8 @@ module _ (n : ℕ) (R : RattleType) where
     kept = (yes, all yes (slots 1 n));
   }
 
-  abbrev held : Ended
-  held = record {
+  abbrev copied : Ended
+  copied = record {
     signature = record { lifetimes = 0; outlives = []; params = columnsSlot ∷ slots 0 n; result = plain (λ _. R) };
     kept = (yes, all yes (slots 0 n));
   }
@@ -98,7 +97,7 @@ module _ (n : ℕ) (R : RattleType) where
   abbrev Kept : {M : Type 1} (𝓤 : URA M) → (List Run → Numbers n → R .Denot) → Promise 𝓤 → Type 1
   Kept 𝓤 reply promise = (runs : List Run) (x : Numbers n) (r : R .Denot) → r ≡ reply runs x → ent 𝓤 (emp 𝓤) (promise runs x r)
 
-  -- the function and h by what they say: what is promised, and the reply of the runs that the columns hold
+  -- the function and h by what they say: what is promised, and the reply of the runs that were copied
   module _ {M : Type 1} (𝓤 : URA M) (H : Heap 𝓤) (A : Atoms 𝓤) where
     abbrev thin-says : Promise 𝓤 → Clauses 𝓤 thin
     thin-says promise κs a = record { ghost = Unit {0}; requires = λ _. emp 𝓤; ensures = λ _ r _. promise (a .0 .now) (numbers 1 κs n (a .1)) r }
@@ -107,15 +106,15 @@ module _ (n : ℕ) (R : RattleType) where
     promised promise = tripleOf 𝓤 H A (thin .signature) (closing 𝓤 H A thin (thin-says promise))
 
   module _ {M : Type 1} (𝓤 : URA M) (H : Heap 𝓤) (A : Atoms 𝓤) (reply : List Run → Numbers n → R .Denot) where
-    abbrev held-says : Clauses 𝓤 held
-    held-says κs a = record {
+    abbrev copied-says : Clauses 𝓤 copied
+    copied-says κs a = record {
       ghost = Unit {0};
-      requires = λ _. fact 𝓤 (HeldColumns (a .0));
-      ensures = λ _ r _. fact 𝓤 (r ≡ reply (runsHeld (a .0)) (numbers 0 κs n (a .1)));
+      requires = λ _. fact 𝓤 (LegalColumns (a .0));
+      ensures = λ _ r _. fact 𝓤 (r ≡ reply (copiedRuns (a .0)) (numbers 0 κs n (a .1)));
     }
 
     abbrev asked : Contract 𝓤
-    asked = tripleOf 𝓤 H A (held .signature) (closing 𝓤 H A held held-says)
+    asked = tripleOf 𝓤 H A (copied .signature) (closing 𝓤 H A copied copied-says)
 
   -- each machine value of the result is of the MIR type τ
   abbrev OfType : Ty → Type 0
@@ -149,7 +148,7 @@ module _ (n : ℕ) (R : RattleType) where
       to-h c w = ((tt, tt, tt, (c, args 0 tt n given), (w ∷ [], valss (rows 0 tt n) (spells 0 tt n) (args 0 tt n given))), tt)
 
       -- what h asks is there
-      goes-h : (c : RunColumns) (w : Val) → Is mRunColumns.the-row c (w ∷ []) → Fit n given → HeldColumns c
+      goes-h : (c : RunColumns) (w : Val) → Is mRunColumns.the-row c (w ∷ []) → Fit n given → LegalColumns c
           → ent 𝓤 (emp 𝓤) (asked 𝓤 H A reply .pre (to-h c w))
       goes-h c w gc f l =
           qed W [] ∵ says ! l $ nothing ! $ frame ! $
@@ -169,13 +168,13 @@ module _ (n : ℕ) (R : RattleType) where
           move ! (8 ∷ []) $ fsplit ! $
           move ! (9 ∷ 0 ∷ []) $ calls-columns ! 𝓣 at-mem run known-g κ q runs (value ! 6 refl) (λ w c e is.
           land ! (found ! (next-place 𝓤 H n at (mRunColumns′.mir, l2))) (init ! 4 refl (LL.lawful mRunColumns.the-type mRunColumns′.the-laws 𝓤 H A W .typed c _ is .0)) $
-          use0 W (raw (asked 𝓤 H A reply .pre (to-h c w))) (goes-h c w is f (subst HeldColumns (sym e) (columns-held (runs .now)))) $
+          use0 W (raw (asked 𝓤 H A reply .pre (to-h c w))) (goes-h c w is f (subst LegalColumns (sym e) (columns-legal (runs .now)))) $
           calls-at ! (fmOf 𝓤 H (W .laws) 𝓣) (asked 𝓤 H A reply) known-h (to-h c w)
           (and-then ! (load ! (found ! (next-place 𝓤 H n at (mRunColumns′.mir, l2))) (look ! 5 refl))
           (read-all ! 0 tt 4 2 n at given refl (placed-2 𝓤 H (τ, l0) _ n at _))) (λ u.
-          returned ! tt (‵ ftrue) R (λ r. ensured 𝓤 H A held (held-says 𝓤 H A reply) tt (c, args 0 tt n given) tt r)
-          (λ r. r ≡ reply (runsHeld c) (numbers 0 tt n (args 0 tt n given)))
-          (λ r. said 𝓤 H A held tt (c, args 0 tt n given) (r ≡ reply (runsHeld c) (numbers 0 tt n (args 0 tt n given)))) u (λ r e′ is′.
+          returned ! tt (‵ ftrue) R (λ r. ensured 𝓤 H A copied (copied-says 𝓤 H A reply) tt (c, args 0 tt n given) tt r)
+          (λ r. r ≡ reply (copiedRuns c) (numbers 0 tt n (args 0 tt n given)))
+          (λ r. said 𝓤 H A copied tt (c, args 0 tt n given) (r ≡ reply (copiedRuns c) (numbers 0 tt n (args 0 tt n given)))) u (λ r e′ is′.
           move ! (1 ∷ []) $ drop ! $
           land ! (spot !) (init ! 9 refl (typed r _ is′ .0)) $
           returns ! (look ! 9 refl) $ forget ! 5 refl $ forget ! 7 refl $ forget ! 9 refl $
@@ -183,8 +182,8 @@ module _ (n : ℕ) (R : RattleType) where
           suffices ! _ (ends-at 𝓤 H A thin stayed (thin-says 𝓤 H A promise) W bound u r (tt, last 1 (κ, tt) n a) (tt, last-fits 1 (κ, tt) n a)) $
           says-all ! (promise (runs .now) given r)
           (keeps (runs .now) given r
-          (e′ ∙ (ap (λ (x : Numbers n). reply (runsHeld c) x) (numbers-args 0 tt n given)
-          ∙ (ap (λ (c : RunColumns). reply (runsHeld c) given) e ∙ held-reply (λ rs. reply rs given) (many given) (runs .now))))) $
+          (e′ ∙ (ap (λ (x : Numbers n). reply (copiedRuns c) x) (numbers-args 0 tt n given)
+          ∙ (ap (λ (c : RunColumns). reply (copiedRuns c) given) e ∙ copied-reply (λ rs. reply rs given) (many given) (runs .now))))) $
           move ! (3 ∷ []) $
           use1 W (‵ (hasOf (κ, tt) (slots 1 n) (all yes (slots 1 n)) (stays 1 n) a (last 1 (κ, tt) n a) (passed .1))) (kept 𝓤 H A W 1 (κ, tt) n a) $
           move ! (2 ∷ []) $ frame ! $ move ! (2 ∷ 0 ∷ []) $ fjoin ! $ frame ! $ done !)))))))

@@ -4,19 +4,19 @@ ghost use mathlib.Core.Path.{_≡_};
 ghost use Prim.Native.Nat.{_-_, _<_, _≤_, min};
 ghost use lib.ListN.{length, getD, take, drop};
 ghost use Rattle.schedule.specs.Runs.{noRun};
-ghost use Rattle.records.specs.RecordColumns.{heldRuns, noNumbers, columnsOf, madeOf};
+ghost use Rattle.records.specs.RecordColumns.{maxCopied, noNumbers, columnsOf, madeOf};
 use base::MAX_RUNS;
 use schedule::Run;
 
-// How many runs of a list are looked at: one more than the most runs of a run list, so that a list of too many shows.
-pub const HELD_RUNS: usize = MAX_RUNS + 1;
+// The most runs of a list that are copied: one more than the most runs of a run list, so that a list of too many shows.
+pub const MAX_COPIED: usize = MAX_RUNS + 1;
 
 // The first runs of a list, column by column. The places beyond the count are 0.
 pub struct RunColumns {
     pub count: usize,
-    pub starts: [u32; HELD_RUNS],
-    pub ends: [u32; HELD_RUNS],
-    pub tasks: [u32; HELD_RUNS],
+    pub starts: [u32; MAX_COPIED],
+    pub ends: [u32; MAX_COPIED],
+    pub tasks: [u32; MAX_COPIED],
 }
 
 // The run at an index.
@@ -27,38 +27,38 @@ pub fn record_at(runs: &[Run], i: usize) -> Run
     runs[i]
 }
 
-// The runs from one index to another, of the caller's own list.
-pub fn part(runs: &[Run], from: usize, to: usize) -> &[Run]
+// The stretch from one index to another, which is excluded, of the caller's own list.
+pub fn stretch(runs: &[Run], from: usize, to: usize) -> &[Run]
     requires { ⌜ (from ≤ to) × (to ≤ length (now runs)) ⌝ }
     ensures { λ r. ⌜ now r ≡ take (to - from) (drop from (now (runs .entry))) ⌝ }
 {
     &runs[from..to]
 }
 
-// How many runs of a list of a given length the columns hold.
-fn held(length: usize) -> usize
-    ensures { λ r. ⌜ r ≡ min length heldRuns ⌝ }
+// How many runs of a list of a given length are copied.
+fn copied_count(length: usize) -> usize
+    ensures { λ r. ⌜ r ≡ min length maxCopied ⌝ }
 {
-    if length < HELD_RUNS {
+    if length < MAX_COPIED {
         length
     } else {
-        HELD_RUNS
+        MAX_COPIED
     }
 }
 
 // A column of zeros.
-fn no_numbers() -> [u32; HELD_RUNS]
+fn no_numbers() -> [u32; MAX_COPIED]
     ensures { λ r. ⌜ r ≡ noNumbers ⌝ }
 {
-    [0u32; HELD_RUNS]
+    [0u32; MAX_COPIED]
 }
 
 // Columns that are filled.
 fn made(
     count: usize,
-    starts: [u32; HELD_RUNS],
-    ends: [u32; HELD_RUNS],
-    tasks: [u32; HELD_RUNS],
+    starts: [u32; MAX_COPIED],
+    ends: [u32; MAX_COPIED],
+    tasks: [u32; MAX_COPIED],
 ) -> RunColumns
     ensures { λ r. ⌜ r ≡ madeOf count starts ends tasks ⌝ }
 {
@@ -75,7 +75,7 @@ fn made(
 pub fn columns_of(runs: &[Run]) -> RunColumns
     ensures { λ r. ⌜ r ≡ columnsOf (now (runs .entry)) ⌝ }
 {
-    let n = held(runs.len());
+    let n = copied_count(runs.len());
     let zeros = no_numbers();
     let mut starts = zeros;
     let mut ends = zeros;

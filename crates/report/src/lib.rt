@@ -1,18 +1,19 @@
 // The printed plan: the text of a file's plan or refusal at a launch tick, as bytes in a lent list.
 ghost use mathlib.Core.Path.{_≡_};
-ghost use mathlib.Core.List.{List, [], _∷_};
-ghost use Prim.Native.Nat.{ℕ, _+_, _*_, _≤_};
+ghost use mathlib.Core.List.{[], _∷_};
+ghost use Prim.Native.Nat.{_+_, _*_, _≤_};
 ghost use lib.ListN.{length};
-ghost use Rattle.table.specs.Layout.{HoldsFirst};
-ghost use Rattle.schedule.specs.Runs.{runsOf};
+ghost use Rattle.schedule.specs.LentRuns.{OneLength, runsLent, runsBefore};
 ghost use Rattle.lines.specs.Putting.{Put};
 ghost use Rattle.lines.specs.Text.{line};
-ghost use Rattle.printed_plan.specs.Printing.{dropWord, dropLines, runWord, runLines, planLines, refusalText, printed, printLength, printedOver};
-ghost use Rattle.printed_plan.specs.ProgramInput.{launchBytes, inputBytes, launchIn, printedInput, Prints};
+ghost use Rattle.printed_plan.specs.Printing.{dropWord, dropLines, runWord, runLines, planLines, refusalText, printed, PrintsWithin};
+ghost use Rattle.printed_plan.specs.ProgramInput.{numberBytes, numberIn, inputBytes, planFront, planOutput, PrintsFromFirst};
+ghost use Rattle.report.specs.FilePlans.{PlanOfFile};
 use base::MAX_PLAN_RUNS;
 use base::MAX_TASKS;
 use lines::MAX_FIELD;
-use table::HELD_BYTES;
+use plans::Planned;
+use table::FILE_BYTES_READ;
 
 // No line is longer: a word of at most 7 bytes, 3 numbers, each with a space, and a newline; definitions say maxLine.
 const MAX_LINE: usize = 7 + 3 * MAX_FIELD + 1;
@@ -20,11 +21,12 @@ const MAX_LINE: usize = 7 + 3 * MAX_FIELD + 1;
 // No text is longer: the PLAN line, a DROP line for each task and a RUN line for each run; definitions say maxText.
 pub const MAX_TEXT: usize = (1 + MAX_TASKS + MAX_PLAN_RUNS) * MAX_LINE;
 
-// The bytes of a launch tick before a table file; definitions say launchBytes.
-pub const LAUNCH_BYTES: usize = 4;
+// The bytes of a number before a table file; definitions say numberBytes.
+pub const NUMBER_BYTES: usize = 4;
 
-// What the program holds of its input: one byte more than the longest one that it accepts has. Definitions say inputBytes.
-pub const INPUT_BYTES: usize = LAUNCH_BYTES + HELD_BYTES;
+// How many bytes are read of an input, the launch tick and a table file: one more than the longest that is accepted has. Definitions say
+// inputBytes planFront.
+pub const INPUT_BYTES: usize = NUMBER_BYTES + FILE_BYTES_READ;
 
 // The DROP line of a position.
 fn put_drop(out: &mut [u8], at: usize, position: usize) -> usize
@@ -62,9 +64,9 @@ fn put_run(out: &mut [u8], at: usize, start: u32, end: u32, task: u32) -> usize
 
 // The RUN lines of runs in three columns.
 pub fn put_runs(out: &mut [u8], at: usize, starts: &[u32], ends: &[u32], tasks: &[u32]) -> usize
-    requires { ⌜ (length (now ends) ≡ length (now starts)) × (length (now tasks) ≡ length (now starts)) ⌝ }
-    requires { ⌜ at + length (runLines (runsOf (now starts) (now ends) (now tasks))) ≤ length (now out) ⌝ }
-    ensures { λ r. ⌜ Put (runLines (runsOf (now (starts .entry)) (now (ends .entry)) (now (tasks .entry)))) at (now (out .entry)) r (now (out .exit)) ⌝ }
+    requires { ⌜ OneLength starts ends tasks ⌝ }
+    requires { ⌜ at + length (runLines (runsLent starts ends tasks)) ≤ length (now out) ⌝ }
+    ensures { λ r. ⌜ Put (runLines (runsBefore starts ends tasks)) at (now (out .entry)) r (now (out .exit)) ⌝ }
 {
     let mut next = at;
     let mut i: usize = 0;
@@ -86,9 +88,9 @@ fn put_plan(
     ends: &[u32],
     tasks: &[u32],
 ) -> usize
-    requires { ⌜ (length (now ends) ≡ length (now starts)) × (length (now tasks) ≡ length (now starts)) ⌝ }
-    requires { ⌜ length (planLines count kept discarded (now marks) (runsOf (now starts) (now ends) (now tasks))) ≤ length (now out) ⌝ }
-    ensures { λ r. ⌜ Put (planLines count kept discarded (now (marks .entry)) (runsOf (now (starts .entry)) (now (ends .entry)) (now (tasks .entry))))
+    requires { ⌜ OneLength starts ends tasks ⌝ }
+    requires { ⌜ length (planLines count kept discarded (now marks) (runsLent starts ends tasks)) ≤ length (now out) ⌝ }
+    ensures { λ r. ⌜ Put (planLines count kept discarded (now (marks .entry)) (runsBefore starts ends tasks))
         0 (now (out .entry)) r (now (out .exit)) ⌝ }
 {
     let numbers = [count as u64, kept as u64, discarded as u64];
@@ -97,24 +99,20 @@ fn put_plan(
     put_runs(out, runs, starts, ends, tasks)
 }
 
-// The text of a refusal put at the front of a list: its number and place.
-pub fn put_refusal(out: &mut [u8], number: u32, place: usize) -> usize
-    requires { ⌜ length (refusalText number place) ≤ length (now out) ⌝ }
-    ensures { λ r. ⌜ Put (refusalText number place) 0 (now (out .entry)) r (now (out .exit)) ⌝ }
-{
-    let numbers = [number as u64, place as u64];
-    lines::put_line(out, 0, b"REFUSED", &numbers)
+// What planning a file leaves to print: the reply, the task count, and the marks and the columns of the runs, in lists that are long enough for every table.
+pub struct FilePlan {
+    pub reply: Planned,
+    pub count: u32,
+    pub marks: [u8; MAX_TASKS],
+    pub starts: [u32; MAX_PLAN_RUNS],
+    pub ends: [u32; MAX_PLAN_RUNS],
+    pub tasks: [u32; MAX_PLAN_RUNS],
 }
 
-// Plans a file at a launch tick and prints its plan or its refusal at the front of a lent list; the number of bytes printed. A list shorter than MAX_TEXT
-// is left as it is, and the reply is 0.
-pub fn print(file: &[u8], launch: u32, out: &mut [u8]) -> usize
-    ensures length_is { λ r. ⌜ r ≡ printLength (printed launch (now (file .entry))) (length (now (out .entry))) ⌝ }
-    ensures content { λ r. ⌜ now (out .exit) ≡ printedOver (printed launch (now (file .entry))) (now (out .entry)) ⌝ }
+// Plans a file at a launch tick: the printed plan and what runs now are made of it.
+pub fn plan_file(file: &[u8], launch: u32) -> FilePlan
+    ensures { λ r. ⌜ PlanOfFile launch (now (file .entry)) r ⌝ }
 {
-    if out.len() < MAX_TEXT {
-        return 0;
-    }
     let mut marks = [0u8; MAX_TASKS];
     let mut starts = [0u32; MAX_PLAN_RUNS];
     let mut ends = [0u32; MAX_PLAN_RUNS];
@@ -128,12 +126,48 @@ pub fn print(file: &[u8], launch: u32, out: &mut [u8]) -> usize
         &mut tasks,
     );
     let reply = planned.reply;
-    if reply.number != 0 {
-        return put_refusal(out, reply.number, reply.place);
-    }
     let count = planned.count;
+    FilePlan {
+        reply,
+        count,
+        marks,
+        starts,
+        ends,
+        tasks,
+    }
+}
+
+// Prints a refusal at the front of a lent list: its number and place. A list shorter than MAX_TEXT is left as it is, and the reply is 0.
+pub fn print_refusal(out: &mut [u8], number: u32, place: usize) -> usize
+    ensures { λ r. ⌜ PrintsWithin (refusalText number place) (now (out .entry)) r (now (out .exit)) ⌝ }
+{
+    if out.len() < MAX_TEXT {
+        return 0;
+    }
+    let numbers = [number as u64, place as u64];
+    lines::put_line(out, 0, b"REFUSED", &numbers)
+}
+
+// Plans a file at a launch tick and prints its plan or its refusal at the front of a lent list; the number of bytes printed. A list shorter than
+// MAX_TEXT is left as it is, and the reply is 0.
+pub fn print(file: &[u8], launch: u32, out: &mut [u8]) -> usize
+    ensures text { λ r. ⌜ PrintsWithin (printed launch (now (file .entry))) (now (out .entry)) r (now (out .exit)) ⌝ }
+{
+    if out.len() < MAX_TEXT {
+        return 0;
+    }
+    let plan = plan_file(file, launch);
+    let reply = plan.reply;
+    if reply.number != 0 {
+        return print_refusal(out, reply.number, reply.place);
+    }
+    let count = plan.count;
     let places = count as usize;
     let runs = reply.runs;
+    let marks = plan.marks;
+    let starts = plan.starts;
+    let ends = plan.ends;
+    let tasks = plan.tasks;
     put_plan(
         out,
         count,
@@ -153,37 +187,33 @@ fn four_bytes(first: u8, second: u8, third: u8, last: u8) -> u32
     ((first as u32 * 256 + second as u32) * 256 + third as u32) * 256 + last as u32
 }
 
-// The launch tick at the front of an input: a number of 4 bytes, high byte first.
-pub fn launch_in(input: &[u8]) -> u32
-    requires { ⌜ launchBytes ≤ length (now input) ⌝ }
-    ensures { λ r. ⌜ r ≡ launchIn (now (input .entry)) ⌝ }
+// The number at the front of some bytes: 4 of them, high byte first.
+pub fn number_in(bytes: &[u8]) -> u32
+    requires { ⌜ numberBytes ≤ length (now bytes) ⌝ }
+    ensures { λ r. ⌜ r ≡ numberIn (now (bytes .entry)) ⌝ }
 {
-    four_bytes(input[0], input[1], input[2], input[3])
+    four_bytes(bytes[0], bytes[1], bytes[2], bytes[3])
 }
 
-// Prints what an input gets: that of the file behind its launch tick, or, where it is too short for one, refusal 1 with the input's length. A list shorter
-// than MAX_TEXT is left as it is, and the reply is 0.
+// Prints what an input gets: that of the file behind its launch tick, or, where it is too short for one, refusal 1 with the input's length. A list
+// shorter than MAX_TEXT is left as it is, and the reply is 0.
 pub fn print_input(input: &[u8], out: &mut [u8]) -> usize
-    ensures length_is { λ r. ⌜ r ≡ printLength (printedInput (now (input .entry))) (length (now (out .entry))) ⌝ }
-    ensures content { λ r. ⌜ now (out .exit) ≡ printedOver (printedInput (now (input .entry))) (now (out .entry)) ⌝ }
+    ensures text { λ r. ⌜ PrintsWithin (planOutput (now (input .entry))) (now (out .entry)) r (now (out .exit)) ⌝ }
 {
-    if out.len() < MAX_TEXT {
-        return 0;
+    if input.len() < NUMBER_BYTES {
+        return print_refusal(out, 1, input.len());
     }
-    if input.len() < LAUNCH_BYTES {
-        return put_refusal(out, 1, input.len());
-    }
-    let launch = launch_in(input);
-    print(&input[LAUNCH_BYTES..], launch, out)
+    let launch = number_in(input);
+    print(&input[NUMBER_BYTES..], launch, out)
 }
 
-// The same of an input that is held. The first `filled` places of `held` are its first bytes: the whole input, or as many as there are places. They settle
-// what is printed.
-pub fn print_held(held: [u8; INPUT_BYTES], filled: usize, text: &mut [u8; MAX_TEXT]) -> usize
-    ensures printed { λ r. ⌜ ((input : List ℕ) → HoldsFirst inputBytes held filled input → Prints (printedInput input) (now (text .entry)) r (now (text .exit))) ⌝ }
-    ensures size { λ r. ⌜ length held ≡ inputBytes ⌝ }
+// The same from the first bytes of an input: what is printed follows from them. They stand in the first `filled` places of `first`: the whole input, or as
+// many bytes as there are places.
+pub fn print_from_first(first: [u8; INPUT_BYTES], filled: usize, text: &mut [u8; MAX_TEXT]) -> usize
+    ensures printed { λ r. ⌜ PrintsFromFirst planOutput (inputBytes planFront) first filled (now (text .entry)) r (now (text .exit)) ⌝ }
+    ensures size { λ r. ⌜ length first ≡ inputBytes planFront ⌝ }
     ensures within { λ r. ⌜ r ≤ length (now (text .exit)) ⌝ }
 {
-    let end = table::held_of(filled, INPUT_BYTES);
-    print_input(&held[..end], text)
+    let end = table::bytes_read(filled, INPUT_BYTES);
+    print_input(&first[..end], text)
 }

@@ -1,9 +1,9 @@
 // Prints the plan or the refusal of table files. The cases are the lines of the file `stdin`, of which a line that starts with `#` is a comment.
 //
-// A line that starts with `print` has a table file and a launch tick, which is 0 where none stands there. One that starts with `input` has an input of the
-// program `plan`: the 4 bytes of a launch tick, and a table file. One that starts with `held` has no file, a number, and how many bytes are filled of as many
-// as the program holds, each with that number. What the file or the input gets is printed, and a line behind it. A line that starts with `short` has bytes
-// that are printed, as a file and as an input, into a list of 100 bytes.
+// A line that starts with `print` has a table file and a launch tick, which is 0 where none stands there. One that starts with `input` has an input
+// of the program `plan`: the 4 bytes of a launch tick, and a table file. One that starts with `first` has no file, a number, and how many bytes an
+// input has, each of them that number: the program reads the first ones. What the file or the input gets is printed, and a line behind it. A line
+// that starts with `short` has bytes that are printed, as a file and as an input, into a list of 100 bytes.
 use libc::STDIN_FILENO;
 use report::INPUT_BYTES;
 use report::MAX_TEXT;
@@ -30,11 +30,11 @@ fn show_input(input: &[u8]) {
     show_front(text, printed);
 }
 
-// Prints what an input gets whose first bytes are each the same.
-fn show_held(each: u8, filled: usize) {
-    let held = [each; INPUT_BYTES];
+// Prints what an input gets of which every byte is the same.
+fn show_from_first(each: u8, filled: usize) {
+    let first = [each; INPUT_BYTES];
     let mut text = [0u8; MAX_TEXT];
-    let printed = report::print_held(held, filled, &mut text);
+    let printed = report::print_from_first(first, filled, &mut text);
     show_front(text, printed);
 }
 
@@ -56,7 +56,7 @@ fn case(start: u8, line: &[u8]) {
     match start {
         b'p' => show(&file[..length], number),
         b'i' => show_input(&file[..length]),
-        b'h' => show_held((number % 256) as u8, cases::number(line, 3) as usize),
+        b'f' => show_from_first((number % 256) as u8, cases::number(line, 3) as usize),
         b's' => show_short(&file[..length]),
         _ => {}
     }

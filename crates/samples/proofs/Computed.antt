@@ -1,7 +1,7 @@
 -- The tests of the sample flights and of the refusals, computed.
 use mathlib.Core.Path.{_≡_, refl}
 use mathlib.Core.Bool.{true}
-use Rattle.base.specs.Lowest.{lowestFrom, lowest, someBelow}
+use Rattle.base.specs.Lowest.{lowestFrom, lowest, someBelow, everyBelow}
 use Rattle.base.specs.Places.{placesFrom, places}
 use Rattle.base.specs.Lent.{contentAfter}
 use Rattle.bits.specs.Bits.{bitAt, number, field, bitsOf, bitIn, bytesFrom, bytesFor, pack}
@@ -15,43 +15,27 @@ use Rattle.table.specs.Kinds.{
   pairwise,
   isNested,
   ofNeitherKind,
-  forwardAnswer,
+  badWindowAnswer,
   kindAnswer,
   windowsAnswer,
-  windowAnswer,
+  tableWindowsAnswer,
   nestingAnswer,
 }
-use Rattle.table.specs.Reading.{countIn, pIn, qIn, taskFrom, taskIn, tableIn, paddingSet, frontAnswer, headAnswer, readAnswer, reading}
+use Rattle.table.specs.Reading.{countIn, pIn, qIn, taskFrom, taskIn, tableIn, paddingSet, frontAnswer, headAnswer, readAnswer, readReply}
 use Rattle.table.specs.Writing.{headBits, rowsFile, fileOf, tooWide, firstTooWide, rowsReply, writeReply, writtenOver}
 use Rattle.table.specs.Moving.{movedTask, movedOutside, firstOutside, movedTable, moveReply, movedOver}
 use Rattle.schedule.specs.Jobs.{jobOf, jobAt}
-use Rattle.schedule.specs.Ticks.{countBelow}
-use Rattle.schedule.specs.Runs.{tooMany, runAt, runsOf}
-use Rattle.schedule.specs.Judging.{
-  noneEmpty,
-  followFrom,
-  inOrder,
-  knownTasks,
-  inWindows,
-  totalOf,
-  exactTotals,
-  verdictBy,
-  verdict,
-  keptCount,
-  discardedCount,
-  firstBadMark,
-  judgeBy,
-  judgeTable,
-  judged,
-}
-use Rattle.schedule.specs.BusyCount.{shared, busySum, busyReply}
-use Rattle.schedule.specs.RunCheck.{outOfOrder, firstOutOfOrder, runsAnswer}
-use Rattle.schedule.specs.Queries.{firstRun, runAtTick, runFromTick, runsThat, touching, stretchOf}
-use Rattle.choice.specs.Choice.{total, worksFit, worksOf, keepLists, keptTicks, lexLess, discardedWorth, keptWorth, key, better, best, bestList, chosenBy}
+use Rattle.schedule.specs.Ticks.{sumBelow}
+use Rattle.schedule.specs.Runs.{tooMany, runAtIndex, runsOf, everyRun, sumRuns}
+use Rattle.schedule.specs.Judging.{followFrom, eachFollows, verdictByJobs, verdict, countMarked, firstBadMark, judgeByVerdict, judgeTable, judgeFile, judgeReply}
+use Rattle.schedule.specs.BusyCount.{shared, busyReply}
+use Rattle.schedule.specs.RunCheck.{outOfOrder, firstOutOfOrder, checkAnswer}
+use Rattle.schedule.specs.Queries.{firstRun, runsThat, touching, stretchOf, foundFirst}
+use Rattle.choice.specs.Choice.{total, worksFit, worksOf, keepLists, lexLess, discardedWorth, keptWorth, choiceKey, better, best, bestList, chosenOver}
 use Rattle.placement.specs.Placing.{worksPlaced, latestFirst}
 use Rattle.placement.specs.ByPosition.{numberAt}
 use Rattle.sequence.specs.InOrder.{endsAt, inTime, finish, fitsInOrder, placedInOrder, firstLate}
-use Rattle.sequence.specs.OrderChoice.{orderKey, chosenInOrderBy}
+use Rattle.sequence.specs.OrderChoice.{choiceKeyInOrder, chosenInOrderOver}
 use Rattle.orders.specs.Sorting.{insertLater, lastFirst}
 use Rattle.orders.specs.NestOrder.{nestBefore}
 use Rattle.orders.specs.SimilarOrder.{similarBefore}
@@ -59,18 +43,15 @@ use Rattle.orders.specs.KindOrder.{beforeBy, kindBefore, orderLastFirst, jobsLa
 use Rattle.plans.specs.Planning.{
   exceedingAfter,
   unmetBy,
-  chosenAs,
+  chosenBy,
   runsBy,
-  firstUnmet,
   tooShort,
-  keepList,
   planMarks,
   planRuns,
   marksBy,
   planRunsBy,
   madeBy,
   replyBy,
-  planOf,
   planTable,
   planReply,
   writtenBy,
@@ -85,20 +66,21 @@ use Rattle.printed_plan.specs.Printing.{
   runLine,
   runLines,
   planLines,
-  planText,
   refusalText,
+  replyText,
+  planTextBy,
+  planText,
   longReply,
   printed,
-  printLength,
-  printedOver,
+  printedWithin,
 }
-use Rattle.printed_plan.specs.ProgramInput.{launchIn, printedInput}
-use Rattle.printed_plan.specs.NowText.{foundLine, nowLines, nowText, printedNow}
+use Rattle.printed_plan.specs.NowText.{foundLine, nowLines, nowText}
+use Rattle.printed_plan.specs.ProgramInput.{numberIn, outputOf}
 use Rattle.samples.specs.Samples.{p8File, computedSamples}
 use Rattle.samples.specs.Refusals.{computedRows}
-use Rattle.samples.specs.SampleTests.{allPass, sameNumbers, sameRuns, sameTasks, sameTable, sameLists, fileMet, kindMet, planMet, sampleMet, callMet}
+use Rattle.samples.specs.SampleTests.{allPass, numbersEqual, runsEqual, tasksEqual, tablesEqual, listsEqual, fileMet, kindMet, planMet, sampleMet, callMet}
 
 -- every sample flight and every call whose test is computed passes, and P8 is planned into lists that are long enough for every table
 pub all-pass : (allPass sampleMet computedSamples ≡ true) × (allPass callMet computedRows ≡ true) × (longReply 0 p8File .number ≡ 0)
-unfolding allPass sampleMet planMet kindMet fileMet callMet sameLists sameTable sameTasks sameRuns sameNumbers textOf ascii printedInput launchIn printedNow nowText nowLines foundLine printedOver printLength printed longReply refusalText planText planLines runLines runLine dropLines dropsFrom line fields decimal decimalWithin listsAfter afterBy writtenBy planReply planTable replyBy madeBy planOf planRunsBy planRuns marksBy planMarks numberAt keepList tooShort firstUnmet runsBy chosenAs unmetBy exceedingAfter jobsLastFirst orderLastFirst beforeBy kindBefore similarBefore nestBefore lastFirst insertLater chosenInOrderBy orderKey firstLate placedInOrder fitsInOrder finish inTime endsAt worksPlaced latestFirst chosenBy bestList best better key keptWorth discardedWorth lexLess keptTicks keepLists worksFit worksOf total countBelow stretchOf touching runsThat runFromTick runAtTick firstRun runsAnswer firstOutOfOrder outOfOrder busyReply busySum shared judged judgeTable judgeBy firstBadMark keptCount discardedCount verdict verdictBy exactTotals totalOf inWindows knownTasks inOrder followFrom noneEmpty runsOf runAt tooMany jobAt jobOf movedOver moveReply firstOutside movedOutside movedTable movedTask writtenOver writeReply rowsReply firstTooWide tooWide fileOf rowsFile headBits reading readAnswer headAnswer frontAnswer paddingSet tableIn taskIn taskFrom qIn pIn countIn nestingAnswer windowAnswer windowsAnswer kindAnswer forwardAnswer ofNeitherKind isNested pairwise failsEarlier similar noLater nested contains badWindow badPeriod badCount fileLength taskStart noTable tableOf taskAt releaseTick deadlineTick releaseOffset deadlineOffset rowsBits rowBits pack bytesFrom bytesFor bitIn bitsOf field number bitAt placesFrom places someBelow lowest lowestFrom contentAfter
+unfolding allPass sampleMet planMet kindMet fileMet callMet listsEqual tablesEqual tasksEqual runsEqual numbersEqual textOf ascii outputOf numberIn nowText nowLines foundLine printedWithin printed longReply planText planTextBy replyText refusalText planLines runLines runLine dropLines dropsFrom line fields decimal decimalWithin listsAfter afterBy writtenBy planReply planTable replyBy madeBy planRunsBy planRuns marksBy planMarks numberAt tooShort runsBy chosenBy unmetBy exceedingAfter jobsLastFirst orderLastFirst beforeBy kindBefore similarBefore nestBefore lastFirst insertLater chosenInOrderOver choiceKeyInOrder firstLate placedInOrder fitsInOrder finish inTime endsAt worksPlaced latestFirst chosenOver bestList best better choiceKey keptWorth discardedWorth lexLess keepLists worksFit worksOf total sumBelow stretchOf touching runsThat firstRun checkAnswer firstOutOfOrder outOfOrder busyReply shared judgeReply judgeTable firstBadMark verdict eachFollows followFrom runsOf runAtIndex tooMany jobAt jobOf movedOver moveReply firstOutside movedOutside movedTable movedTask writtenOver writeReply rowsReply firstTooWide tooWide fileOf rowsFile headBits readAnswer headAnswer frontAnswer paddingSet tableIn taskIn taskFrom qIn pIn countIn nestingAnswer tableWindowsAnswer windowsAnswer kindAnswer ofNeitherKind isNested pairwise failsEarlier similar noLater nested contains badWindow badPeriod badCount fileLength taskStart noTable tableOf taskAt releaseTick deadlineTick releaseOffset deadlineOffset rowsBits rowBits pack bytesFrom bytesFor bitIn bitsOf field number bitAt placesFrom places someBelow lowest lowestFrom contentAfter foundFirst sumRuns judgeFile judgeByVerdict countMarked verdictByJobs everyRun everyBelow badWindowAnswer readReply
 all-pass = (refl, refl, refl)

@@ -14,7 +14,8 @@ use Rattle.schedule.specs.Runs.{startsOf, endsOf, tasksOf}
 use Rattle.schedule.specs.Shifting.{laterRun, laterRuns}
 use Rattle.orders.specs.KindOrder.{jobsLastFirst}
 use Rattle.plans.specs.declared.Planned.{Planned}
-use Rattle.plans.specs.Planning.{LentLists, lent, listsFor, marksBy, planMarks, planRunsBy, planRuns, planReply, planOf, writtenBy, afterBy, listsAfter}
+use Rattle.plans.specs.Planning.{LentLists, lent, listsFor, marksBy, planMarks, planRunsBy, planRuns, planReply, writtenBy, afterBy, listsAfter}
+use Rattle.plans.specs.PlanParts.{planOf}
 use Rattle.plans.proofs.LaunchLaws.{marks-launch, runs-launch, reply-launch}
 use Rattle.plans.proofs.ReplyLaws.{plan-made}
 use Rattle.printed_plan.specs.Printing.{planLines, longReply, printed}

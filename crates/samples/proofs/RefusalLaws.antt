@@ -6,8 +6,8 @@ use native.Mathlib.Omega.{arith}
 use lib.Dec.{eqb}
 use lib.ListN.{length}
 use borrow.Author.Tests.{eqb-true, le-ltb, lt-ltb, le-leb}
+use Rattle.base.specs.Lent.{writtenFront}
 use Rattle.base.specs.Limits.{maxRuns}
-use Rattle.base.specs.Tests.{and}
 use Rattle.base.specs.Members.{All}
 use Rattle.base.specs.Places.{placesFrom, places}
 use Rattle.base.proofs.MemberLaws.{all-append}
@@ -18,22 +18,21 @@ use Rattle.table.specs.declared.Answer.the-variants.{Accepted}
 use Rattle.table.specs.declared.Reading.{Reading}
 use Rattle.table.specs.Tables.{tableOf}
 use Rattle.table.specs.Answers.{numberOf, placeOf}
+use Rattle.table.specs.Reading.{tableIn, readReply}
 use Rattle.table.specs.Kinds.{isNested}
-use Rattle.table.specs.Reading.{tableIn, reading}
 use Rattle.table.specs.Writing.{fileOf, writeReply}
 use Rattle.table.proofs.TableLaws.{tableOf-canonical}
 use Rattle.table.proofs.FileLaws.{accepted-legal}
 use Rattle.table.proofs.RoundTrip.{written-read}
 use Rattle.schedule.specs.declared.RunsAnswer.the-variants as checked
-use Rattle.schedule.specs.Ticks.{one}
-use Rattle.schedule.specs.Runs.{tooMany}
-use Rattle.schedule.specs.Judging.{noneEmpty, followFrom, inOrder}
-use Rattle.schedule.specs.RunCheck.{runsAnswer, runsNumber, runsPlace}
+use Rattle.schedule.specs.Runs.{tooMany, everyRun, sumRuns}
+use Rattle.schedule.specs.Judging.{noneEmpty, followFrom, eachFollows}
+use Rattle.schedule.specs.RunCheck.{checkAnswer, runsNumber, runsPlace}
 use Rattle.schedule.specs.BusyCount.{shared, busySum, busyReply}
 use Rattle.schedule.specs.Queries.{touching, stretchOf}
 use Rattle.schedule.proofs.CheckLaws.{ordered-accepted}
 use Rattle.plans.specs.Planning.{listsFor, planReply, listsAfter}
-use Rattle.printed_plan.specs.Printing.{printLength, printedOver}
+use Rattle.printed_plan.specs.Printing.{printedWithin}
 use Rattle.samples.specs.Refusals.{
   Call,
   reads,
@@ -48,7 +47,7 @@ use Rattle.samples.specs.Refusals.{
   asksAt,
   asksFrom,
   asksTouching,
-  prints,
+  printsPlan,
   printsNow,
   printsOver,
   limits,
@@ -58,8 +57,8 @@ use Rattle.samples.specs.Refusals.{
   largeRows,
   refusals,
 }
-use Rattle.samples.specs.Inputs.{task, bytesWritten, counted}
-use Rattle.samples.specs.SampleTests.{sameNumbers, sameRuns, sameTable, sameLists, planParts, callMet}
+use Rattle.samples.specs.Inputs.{task, bytesWritten, countedTicks}
+use Rattle.samples.specs.SampleTests.{numbersEqual, runsEqual, tablesEqual, listsEqual, planParts, callMet}
 use Rattle.samples.proofs.SameLaws.{pass-all, both, three, numbers-same, runs-same, table-same, lists-same, planned-same, written-same, judged-same, busy-same}
 use Rattle.samples.specs.Samples.{p8Table, p8File, p8Marks, p8Runs}
 use Rattle.samples.proofs.Computed.{all-pass}
@@ -70,29 +69,31 @@ use Rattle.samples.proofs.SampleLaws.{p8-at-0}
 call-says : (call : Call) → callMet call ≡ true → CallSays call
 unfolding callMet
 call-says (reads file number place t) e =
-    let answer = reading file .answer in
-    three (eqb (numberOf answer) number) (eqb (placeOf answer) place) (sameTable (reading file .table) t) (eqb-true _ _) (eqb-true _ _) (table-same _ _) e
+    let answer = readReply file .answer in
+    three (eqb (numberOf answer) number) (eqb (placeOf answer) place) (tablesEqual (readReply file .table) t) (eqb-true _ _) (eqb-true _ _) (table-same _ _) e
 call-says (writes t room reply) e = written-same _ _ e
 call-says (writesOver t out after) e = numbers-same _ _ e
 call-says (moves file shift room reply) e = written-same _ _ e
 call-says (movesOver file shift out after) e = numbers-same _ _ e
 call-says (plans file launch lists reply after) e =
-    both (sameNumbers (planParts (planReply launch file lists)) (planParts reply)) (sameLists (listsAfter launch (tableIn file) reply lists) after)
+    both (numbersEqual (planParts (planReply launch file lists)) (planParts reply)) (listsEqual (listsAfter launch (tableIn file) reply lists) after)
     (planned-same _ _) (lists-same _ _) e
 call-says (judges file launch marks runs reply) e = judged-same _ _ e
 call-says (busyCounts runs a b reply) e = busy-same _ _ e
 call-says (checks runs number place) e =
-    let answer = runsAnswer runs in
+    let answer = checkAnswer runs in
     both (eqb (runsNumber answer) number) (eqb (runsPlace answer) place) (eqb-true _ _) (eqb-true _ _) e
 call-says (asksAt runs tick numbers) e = numbers-same _ _ e
 call-says (asksFrom runs tick numbers) e = numbers-same _ _ e
 call-says (asksTouching runs a b first part) e =
     let at = stretchOf runs a b in
-    three (sameRuns (touching runs a b) part) (eqb (at .first) first) (eqb (at .runs) (length part)) (runs-same _ _) (eqb-true _ _) (eqb-true _ _) e
-call-says (prints input text) e = numbers-same _ _ e
+    three (runsEqual (touching runs a b) part) (eqb (at .first) first) (eqb (at .runs) (length part)) (runs-same _ _) (eqb-true _ _) (eqb-true _ _) e
+call-says (printsPlan input text) e = numbers-same _ _ e
 call-says (printsNow input text) e = numbers-same _ _ e
 call-says (printsOver text out bytes after) e =
-    both (eqb (printLength text (length out)) bytes) (sameNumbers (printedOver text out) after) (eqb-true _ _) (numbers-same _ _) e
+    let printed = printedWithin (length out) text in
+    let z = both (eqb bytes (length printed)) (numbersEqual after (writtenFront printed out)) (eqb-true _ _) (numbers-same _ _) e in
+    record { bytes-are = z .0; content = z .1 }
 call-says (limits limit number) e = eqb-true _ _ e
 
 -- every row whose test is computed
@@ -105,7 +106,7 @@ written-reads : (count p q : ℕ) (task : ℕ → Task) (room bytes : ℕ) → w
 unfolding tableOf
 written-reads count p q task room bytes e =
     let t : Table = tableOf count p q task in
-    let r : reading (fileOf t) ≡ record { answer = Accepted; table = t } =
+    let r : readReply (fileOf t) ≡ record { answer = Accepted; table = t } =
     written-read (accepted-legal t room (ap (λ (w : Written). w .number) e) .legal)
     ∙ ap {B = Reading} (λ (x : Table). record { answer = Accepted; table = x }) (tableOf-canonical count p q task) in
     rw r (refl, refl, refl)
@@ -117,25 +118,25 @@ ticks-many from zero = refl
 ticks-many from (suc n) = ap suc (ticks-many (suc from) n)
 
 ticks-ordered : (from n : ℕ) → (noneEmpty (tickRuns from n) ≡ true) × (followFrom from (tickRuns from n) ≡ true)
-unfolding tickRuns noneEmpty followFrom
+unfolding tickRuns everyRun followFrom
 ticks-ordered from zero = (refl, refl)
 ticks-ordered from (suc n) =
     let rest = ticks-ordered (suc from) n in
     (rw (lt-ltb from (suc from) (omega arith), rest .0), rw (le-leb from from (omega arith), rest .1))
 
 -- so many of them are accepted
-ticks-accepted : (n : ℕ) → n ≤ maxRuns → runsAnswer (tickRuns 0 n) ≡ checked.Accepted
-unfolding tooMany inOrder
+ticks-accepted : (n : ℕ) → n ≤ maxRuns → checkAnswer (tickRuns 0 n) ≡ checked.Accepted
+unfolding tooMany eachFollows
 ticks-accepted n h = ordered-accepted (tickRuns 0 n) (rw (ticks-many 0 n) (le-ltb maxRuns n h)) (ticks-ordered 0 n)
 
 -- each adds one to the sum of an interval around it,
 ticks-sum : (a b from n : ℕ) → a ≤ from → from + n ≤ b → busySum a b (tickRuns from n) ≡ n
-unfolding tickRuns busySum shared
+unfolding tickRuns sumRuns shared
 ticks-sum a b from zero l h = refl
 ticks-sum a b from (suc n) l h = omega (arith, ticks-sum a b (suc from) n (omega arith) (omega arith))
 
 -- and so they are counted
-ticks-counted : (n : ℕ) → n ≤ maxRuns → CallSays (busyCounts (tickRuns 0 n) 0 n (counted n))
+ticks-counted : (n : ℕ) → n ≤ maxRuns → CallSays (busyCounts (tickRuns 0 n) 0 n (countedTicks n))
 unfolding busyReply
 ticks-counted n h = rw (ticks-accepted n h, ticks-sum 0 n 0 n (omega arith) (omega arith))
 

@@ -26,7 +26,7 @@ use Rattle.plans.specs.Planning.{listsFor, planReply, planMarks, planRuns}
 use Rattle.lines.specs.Ascii.{ascii, textOf}
 use Rattle.lines.specs.Text.{decimalWithin, decimal, fields, line}
 use Rattle.printed_plan.specs.Printing.{dropsFrom, dropLines, runLine, runLines, planLines}
-use Rattle.printed_plan.specs.ProgramInput.{launchIn, printedInput}
+use Rattle.printed_plan.specs.ProgramInput.{numberIn, outputOf, planOutput}
 use Rattle.samples.specs.Samples.{
   Sample,
   PlanSample,
@@ -54,7 +54,7 @@ use Rattle.samples.specs.Samples.{
   Says,
   samples,
 }
-use Rattle.samples.specs.SampleTests.{sameNumbers, sameRuns, sameTable, planParts, writtenParts, fileMet, kindMet, planMet, sampleMet}
+use Rattle.samples.specs.SampleTests.{numbersEqual, runsEqual, tablesEqual, planParts, writtenParts, fileMet, kindMet, madeMet, planMet, sampleMet}
 use Rattle.samples.proofs.SameLaws.{pass-all, both, three, numbers-same, runs-same, table-same, planned-same, written-same}
 use Rattle.samples.proofs.Computed.{all-pass}
 use Rattle.samples.proofs.LaunchSamples.{planned-later, text-later}
@@ -62,23 +62,22 @@ use Rattle.samples.proofs.LaunchSamples.{planned-later, text-later}
 -- what the test of a file and its table says
 file-holds : (file : List ℕ) (t : Table) → fileMet file t ≡ true → FileHolds file t
 unfolding fileMet
-file-holds file t e = both (sameTable (tableIn file) t) (sameNumbers (fileOf t) file) (table-same (tableIn file) t) (numbers-same (fileOf t) file) e
+file-holds file t e = both (tablesEqual (tableIn file) t) (numbersEqual (fileOf t) file) (table-same (tableIn file) t) (numbers-same (fileOf t) file) e
 
 -- what the test of marks and runs says, which is made where the reply is a plan
 plan-holds : (number : ℕ) (marks expected : List ℕ) (runs due : List Run)
-    → pick (eqb number 0) (and (sameNumbers marks expected) (sameRuns runs due)) true ≡ true
+    → pick (eqb number 0) (and (numbersEqual marks expected) (runsEqual runs due)) true ≡ true
     → number ≡ 0 → (marks ≡ expected) × (runs ≡ due)
 plan-holds number marks expected runs due e z =
-    both (sameNumbers marks expected) (sameRuns runs due) (numbers-same marks expected) (runs-same runs due) (rw (eq-eqb number 0 z) at e)
+    both (numbersEqual marks expected) (runsEqual runs due) (numbers-same marks expected) (runs-same runs due) (rw (eq-eqb number 0 z) at e)
 
 -- what the test of a plan says
 plan-says : (s : PlanSample) → planMet s ≡ true → PlanSays s
 unfolding planMet
 plan-says s e =
     let reply = planReply (s .launch) (s .file) (listsFor (s .table .count)) in
-    let replied = sameNumbers (planParts reply) (planParts (s .reply)) in
-    let made = pick (eqb (s .reply .number) 0) (and (sameNumbers (planMarks (s .launch) (s .table)) (s .marks)) (sameRuns (planRuns (s .launch) (s .table)) (s .runs))) true in
-    three (fileMet (s .file) (s .table)) replied made (file-holds (s .file) (s .table)) (planned-same reply (s .reply))
+    let replied = numbersEqual (planParts reply) (planParts (s .reply)) in
+    three (fileMet (s .file) (s .table)) replied (madeMet s) (file-holds (s .file) (s .table)) (planned-same reply (s .reply))
     (plan-holds (s .reply .number) (planMarks (s .launch) (s .table)) (s .marks) (planRuns (s .launch) (s .table)) (s .runs))
     e
 
@@ -104,14 +103,16 @@ kind-holds answer place e =
 sample-says : (s : Sample) → sampleMet s ≡ true → Says s
 unfolding sampleMet
 sample-says (clock s) e =
-    both (eqb (releaseTick (s .launch) (s .p) (s .q) (s .frame)) (s .release)) (eqb (deadlineTick (s .launch) (s .p) (s .q) (s .frame)) (s .deadline)) (eqb-true _ _) (eqb-true _ _) e
+    let release = releaseTick (s .launch) (s .p) (s .q) (s .frame) in
+    let deadline = deadlineTick (s .launch) (s .p) (s .q) (s .frame) in
+    both (eqb release (s .release)) (eqb deadline (s .deadline)) (eqb-true _ _) (eqb-true _ _) e
 sample-says (plan s) e = plan-says s e
 sample-says (window s) e =
     let job = jobAt (s .launch) (s .table) (s .position) in
     both (eqb (job .release) (s .release)) (eqb (job .deadline) (s .deadline)) (eqb-true _ _) (eqb-true _ _) e
 sample-says (move s) e =
     let reply = moveReply (s .file) (s .shift) (length (s .file)) in
-    both (fileMet (s .file) (s .table)) (sameNumbers (writtenParts reply) (writtenParts (s .reply))) (file-holds (s .file) (s .table))
+    both (fileMet (s .file) (s .table)) (numbersEqual (writtenParts reply) (writtenParts (s .reply))) (file-holds (s .file) (s .table))
     (written-same reply (s .reply))
     e
 sample-says (text s) e = numbers-same _ _ e
@@ -129,8 +130,8 @@ tie-at-0 : Says (planned tieTable tieFile 1 1 (0 ∷ 1 ∷ []) tieRuns)
 tie-at-0 = computed-say .1 .1 .1 .1 .1 .1 .1 .1 .1 .1 .1 .1 .1 .1 .1 .1 .1 .1 .0
 
 -- P8's text at launch 43,200,000
-noon-text : printedInput (atNoon p8File) ≡ p8NoonText
-unfolding printedInput launchIn planLines runLines runLine dropLines dropsFrom line fields decimal decimalWithin textOf ascii tableOf
+noon-text : planOutput (atNoon p8File) ≡ p8NoonText
+unfolding outputOf numberIn planLines runLines runLine dropLines dropsFrom line fields decimal decimalWithin textOf ascii tableOf
 noon-text = text-later 43_200_000 p8Table p8File 1 2 p8Marks p8Runs refl (all-pass .2) p8-at-0 ∙ lines
   where
     lines : planLines 3 1 2 p8Marks p8NoonRuns ≡ p8NoonText

@@ -2,7 +2,7 @@
 -- samples are about is used here, so a reply that is expected says what it says whatever they are.
 use Prim.Native.Nat.{ℕ, _-_}
 use mathlib.Core.Bool.{true, false}
-use mathlib.Core.List.{List, [], _∷_, _++_}
+use mathlib.Core.List.{List, _++_}
 use lib.ListN.{length, replicate}
 use Rattle.table.specs.declared.Task.{Task}
 use Rattle.table.specs.declared.Table.{Table}
@@ -57,5 +57,5 @@ judgedYes kept discarded = record { number = 0; place = 0; yes = true; kept = ke
 abbrev pub notCounted : ℕ → ℕ → Busy
 notCounted number place = record { number = number; place = place; ticks = 0 }
 
-abbrev pub counted : ℕ → Busy
-counted ticks = record { number = 0; place = 0; ticks = ticks }
+abbrev pub countedTicks : ℕ → Busy
+countedTicks ticks = record { number = 0; place = 0; ticks = ticks }

@@ -11,24 +11,23 @@ use Rattle.lines.specs.Ascii.{textOf}
 use Rattle.table.specs.declared.Table.{Table}
 use Rattle.table.specs.declared.Written.{Written}
 use Rattle.table.specs.Answers.{numberOf, placeOf}
-use Rattle.table.specs.Layout.{maxFile, heldBytes}
-use Rattle.table.specs.Reading.{tableIn, reading}
+use Rattle.table.specs.Layout.{maxFile, fileBytesRead}
+use Rattle.table.specs.Reading.{tableIn, readReply}
 use Rattle.table.specs.Writing.{fileOf, writeReply, writtenOver}
 use Rattle.table.specs.Moving.{moveReply, movedOver}
 use Rattle.schedule.specs.declared.Judged.{Judged}
 use Rattle.schedule.specs.declared.Busy.{Busy}
 use Rattle.schedule.specs.declared.Run.{Run}
 use Rattle.schedule.specs.declared.Found.{Found}
-use Rattle.schedule.specs.Ticks.{one}
-use Rattle.schedule.specs.Judging.{judged}
+use Rattle.schedule.specs.Ticks.{oneIf}
+use Rattle.schedule.specs.Judging.{judgeReply}
 use Rattle.schedule.specs.BusyCount.{busyReply}
-use Rattle.schedule.specs.RunCheck.{runsAnswer, runsNumber, runsPlace}
-use Rattle.schedule.specs.Queries.{runAtTick, runFromTick, foundNumber, foundPlace, isFound, foundRun, touching, stretchOf}
+use Rattle.schedule.specs.RunCheck.{checkAnswer, runsNumber, runsPlace}
+use Rattle.schedule.specs.Queries.{runAtTick, runFromTick, foundNumber, foundPlace, isFound, runFound, touching, stretchOf}
 use Rattle.plans.specs.declared.Planned.{Planned}
 use Rattle.plans.specs.Planning.{LentLists, listsFor, planReply, listsAfter}
-use Rattle.printed_plan.specs.Printing.{maxLine, maxText, printLength, printedOver}
-use Rattle.printed_plan.specs.ProgramInput.{inputBytes, printedInput}
-use Rattle.printed_plan.specs.NowText.{nowInputBytes, printedNow}
+use Rattle.printed_plan.specs.Printing.{maxLine, maxText, PrintsWithin}
+use Rattle.printed_plan.specs.ProgramInput.{inputBytes, planFront, planOutput, nowFront, nowOutput}
 use Rattle.samples.specs.Inputs.{
   task,
   table,
@@ -42,7 +41,7 @@ use Rattle.samples.specs.Inputs.{
   judgedNo,
   judgedYes,
   notCounted,
-  counted,
+  countedTicks,
 }
 use Rattle.samples.specs.Samples.{p4File, p8File, p8Marks, p8Runs, neitherTable, tieFile, lateFile, emptyFile, atZero}
 
@@ -71,8 +70,8 @@ pub data Call : Type 0 where
   asksFrom : List Run → ℕ → List ℕ → Call
   -- the runs that share a tick with the interval from one tick to another: the index of the first, and the runs
   asksTouching : List Run → ℕ → ℕ → ℕ → List Run → Call
-  -- printing what an input of the program gets: the bytes of the text; and the same of the program for what runs now
-  prints : List ℕ → List ℕ → Call
+  -- printing what an input of the program `plan` gets: the bytes of the text; and the same of the program `now`
+  printsPlan : List ℕ → List ℕ → Call
   printsNow : List ℕ → List ℕ → Call
   -- printing a text: what a lent list holds before, how many bytes are printed, and what the list holds then
   printsOver : List ℕ → List ℕ → ℕ → List ℕ → Call
@@ -84,31 +83,31 @@ abbrev pub foundParts : Found → List ℕ
 foundParts answer =
     foundNumber answer
     ∷ foundPlace answer
-    ∷ one (isFound answer)
-    ∷ foundRun answer .start
-    ∷ foundRun answer .end
-    ∷ foundRun answer .task
+    ∷ oneIf (isFound answer)
+    ∷ runFound answer .start
+    ∷ runFound answer .end
+    ∷ runFound answer .task
     ∷ []
 
 -- what a call's row says of the definitions
 abbrev pub CallSays : Call → Type 0
 CallSays (reads file number place t) =
-    (numberOf (reading file .answer) ≡ number) × (placeOf (reading file .answer) ≡ place) × (reading file .table ≡ t)
+    (numberOf (readReply file .answer) ≡ number) × (placeOf (readReply file .answer) ≡ place) × (readReply file .table ≡ t)
 CallSays (writes t room reply) = writeReply t room ≡ reply
 CallSays (writesOver t out after) = writtenOver t out ≡ after
 CallSays (moves file shift room reply) = moveReply file shift room ≡ reply
 CallSays (movesOver file shift out after) = movedOver file shift out ≡ after
 CallSays (plans file launch lists reply after) = (planReply launch file lists ≡ reply) × (listsAfter launch (tableIn file) reply lists ≡ after)
-CallSays (judges file launch marks runs reply) = judged launch file marks runs ≡ reply
+CallSays (judges file launch marks runs reply) = judgeReply launch file marks runs ≡ reply
 CallSays (busyCounts runs a b reply) = busyReply runs a b ≡ reply
-CallSays (checks runs number place) = (runsNumber (runsAnswer runs) ≡ number) × (runsPlace (runsAnswer runs) ≡ place)
+CallSays (checks runs number place) = (runsNumber (checkAnswer runs) ≡ number) × (runsPlace (checkAnswer runs) ≡ place)
 CallSays (asksAt runs tick numbers) = foundParts (runAtTick runs tick) ≡ numbers
 CallSays (asksFrom runs tick numbers) = foundParts (runFromTick runs tick) ≡ numbers
 CallSays (asksTouching runs a b first part) =
     (touching runs a b ≡ part) × (stretchOf runs a b .first ≡ first) × (stretchOf runs a b .runs ≡ length part)
-CallSays (prints input text) = printedInput input ≡ text
-CallSays (printsNow input text) = printedNow input ≡ text
-CallSays (printsOver text out bytes after) = (printLength text (length out) ≡ bytes) × (printedOver text out ≡ after)
+CallSays (printsPlan input text) = planOutput input ≡ text
+CallSays (printsNow input text) = nowOutput input ≡ text
+CallSays (printsOver text out bytes after) = PrintsWithin text out bytes after
 CallSays (limits limit number) = limit ≡ number
 
 -- a file that reading refuses: the table is 0 throughout
@@ -135,7 +134,7 @@ lists marks starts ends tasks = listsOf (replicate marks 9) (replicate starts 90
 abbrev pub emptyRun : Run
 emptyRun = run 0 0 0
 
--- an input of the program for what runs now: launch tick, tick and number of ticks, each below 256, and a file
+-- an input of the program `now`: launch tick, tick and number of ticks, each below 256, and a file
 abbrev pub nowInput : ℕ → ℕ → ℕ → List ℕ → List ℕ
 nowInput launch tick span file = 0 ∷ 0 ∷ 0 ∷ launch ∷ 0 ∷ 0 ∷ 0 ∷ tick ∷ 0 ∷ 0 ∷ 0 ∷ span ∷ file
 
@@ -186,8 +185,8 @@ abbrev pub twoTasks : List ℕ
 twoTasks = fileOf (table 1 1 (task 2 8 0 0 ∷ task 1 9 0 0 ∷ []))
 
 -- two tasks, frames 0 to 5 and 0 to 9: task 0 has an optional part of 0 ticks, and task 1 one of a tick
-abbrev pub oneFree : List ℕ
-oneFree = fileOf (table 1 1 (task 0 5 2 0 ∷ task 0 9 1 1 ∷ []))
+abbrev pub zeroOptional : List ℕ
+zeroOptional = fileOf (table 1 1 (task 0 5 2 0 ∷ task 0 9 1 1 ∷ []))
 
 -- three tasks whose mandatory ticks exceed the outermost window alone: that of task 1, which is the last in nest order
 abbrev pub outermostExceeds : List ℕ
@@ -381,8 +380,8 @@ planningRows =
     (listsOf (1 ∷ 0 ∷ 0 ∷ []) (13 ∷ 15 ∷ 16 ∷ 17 ∷ 18 ∷ []) (15 ∷ 16 ∷ 17 ∷ 18 ∷ 20 ∷ []) (0 ∷ 2 ∷ 0 ∷ 1 ∷ 0 ∷ []))
     ∷ plans emptyFile 0 (lists 2 1 2 3) (planWith 0 1 0) (listsOf (0 ∷ 9 ∷ []) (90 ∷ []) (91 ∷ 91 ∷ []) (92 ∷ 92 ∷ 92 ∷ []))
     -- the line printed of a refusal
-    ∷ prints (atZero outermostExceeds) (textOf ("REFUSED 8 1" ∷ []))
-    ∷ prints (atZero longFile) (textOf ("REFUSED 3 12" ∷ []))
+    ∷ printsPlan (atZero outermostExceeds) (textOf ("REFUSED 8 1" ∷ []))
+    ∷ printsPlan (atZero longFile) (textOf ("REFUSED 3 12" ∷ []))
     ∷ []
 
 -- Judging with launch 0: reading, 11, 13; in 11 the length goes first.
@@ -428,10 +427,10 @@ judgingRows =
     ∷ judges tieFile 0 (1 ∷ 0 ∷ []) (run 1 2 0 ∷ run 3 4 1 ∷ []) judgedNo
     ∷ judges tieFile 0 (1 ∷ 0 ∷ []) (run 1 3 0 ∷ run 3 5 1 ∷ []) judgedNo
     -- an optional part of 0 ticks, that of task 0, enters neither count, and a mark of 1 or 0 for it is equally good
-    ∷ judges oneFree 0 (1 ∷ 1 ∷ []) (run 1 3 0 ∷ run 3 5 1 ∷ []) (judgedYes 1 0)
-    ∷ judges oneFree 0 (0 ∷ 1 ∷ []) (run 1 3 0 ∷ run 3 5 1 ∷ []) (judgedYes 1 0)
-    ∷ judges oneFree 0 (1 ∷ 0 ∷ []) (run 1 3 0 ∷ run 3 4 1 ∷ []) (judgedYes 0 1)
-    ∷ judges oneFree 0 (0 ∷ 0 ∷ []) (run 1 3 0 ∷ run 3 4 1 ∷ []) (judgedYes 0 1)
+    ∷ judges zeroOptional 0 (1 ∷ 1 ∷ []) (run 1 3 0 ∷ run 3 5 1 ∷ []) (judgedYes 1 0)
+    ∷ judges zeroOptional 0 (0 ∷ 1 ∷ []) (run 1 3 0 ∷ run 3 5 1 ∷ []) (judgedYes 1 0)
+    ∷ judges zeroOptional 0 (1 ∷ 0 ∷ []) (run 1 3 0 ∷ run 3 4 1 ∷ []) (judgedYes 0 1)
+    ∷ judges zeroOptional 0 (0 ∷ 0 ∷ []) (run 1 3 0 ∷ run 3 4 1 ∷ []) (judgedYes 0 1)
     -- P8: yes for its plan, no for the one that document 01's clock would give
     ∷ judges p8File 0 p8Marks p8Runs (judgedYes 1 2)
     ∷ judges p8File 0 (1 ∷ 0 ∷ 1 ∷ []) (run 2 4 0 ∷ run 4 6 2 ∷ run 6 7 0 ∷ run 7 8 1 ∷ run 8 10 0 ∷ []) judgedNo
@@ -473,14 +472,14 @@ launchRows =
     ∷ judges tieFile 0 (0 ∷ 1 ∷ []) (run 86_400_000 86_400_001 0 ∷ run 86_400_001 86_400_005 1 ∷ []) judgedNo
     ∷ judges tieFile 86_399_999 (0 ∷ 1 ∷ []) (run 1 2 0 ∷ run 2 6 1 ∷ []) judgedNo
     -- the program's input: fewer than 4 bytes get 1 with the input's length; from 4 bytes on 1 has the length of the file that follows them
-    ∷ prints [] (textOf ("REFUSED 1 0" ∷ []))
-    ∷ prints (0x05 ∷ 0x26 ∷ 0x5C ∷ []) (textOf ("REFUSED 1 3" ∷ []))
-    ∷ prints (atZero []) (textOf ("REFUSED 1 0" ∷ []))
-    ∷ prints (atZero (take 11 p4File)) (textOf ("REFUSED 1 11" ∷ []))
+    ∷ printsPlan [] (textOf ("REFUSED 1 0" ∷ []))
+    ∷ printsPlan (0x05 ∷ 0x26 ∷ 0x5C ∷ []) (textOf ("REFUSED 1 3" ∷ []))
+    ∷ printsPlan (atZero []) (textOf ("REFUSED 1 0" ∷ []))
+    ∷ printsPlan (atZero (take 11 p4File)) (textOf ("REFUSED 1 11" ∷ []))
     -- high byte first: 05 26 5C 00 is 86,400,000, 05 26 5B FF is 86,399,999, and 00 5C 26 05 is 6,039,045
-    ∷ prints (0x05 ∷ 0x26 ∷ 0x5C ∷ 0x00 ∷ outermostExceeds) (textOf ("REFUSED 14 0" ∷ []))
-    ∷ prints (0x05 ∷ 0x26 ∷ 0x5B ∷ 0xFF ∷ outermostExceeds) (textOf ("REFUSED 8 1" ∷ []))
-    ∷ prints (0x00 ∷ 0x5C ∷ 0x26 ∷ 0x05 ∷ outermostExceeds) (textOf ("REFUSED 8 1" ∷ []))
+    ∷ printsPlan (0x05 ∷ 0x26 ∷ 0x5C ∷ 0x00 ∷ outermostExceeds) (textOf ("REFUSED 14 0" ∷ []))
+    ∷ printsPlan (0x05 ∷ 0x26 ∷ 0x5B ∷ 0xFF ∷ outermostExceeds) (textOf ("REFUSED 8 1" ∷ []))
+    ∷ printsPlan (0x00 ∷ 0x5C ∷ 0x26 ∷ 0x05 ∷ outermostExceeds) (textOf ("REFUSED 8 1" ∷ []))
     ∷ []
 
 -- Busy count: 13, then 15.
@@ -502,13 +501,13 @@ busyRows =
     ∷ busyCounts (run 3 5 0 ∷ run 4 6 1 ∷ []) 9 0 (notCounted 15 1)
     ∷ busyCounts (run 3 5 0 ∷ run 4 6 1 ∷ []) 7 9 (notCounted 15 1)
     -- lists that are accepted: all ticks of touching runs, the length of an interval within them, one tick on each side of a gap, and no run
-    ∷ busyCounts (run 3 5 0 ∷ run 5 6 2 ∷ run 6 9 0 ∷ []) 0 20 (counted 6)
-    ∷ busyCounts (run 3 5 0 ∷ run 5 6 2 ∷ run 6 9 0 ∷ []) 4 8 (counted 4)
-    ∷ busyCounts (run 3 5 0 ∷ run 8 10 4_294_967_295 ∷ []) 4 9 (counted 2)
-    ∷ busyCounts [] 0 9 (counted 0)
+    ∷ busyCounts (run 3 5 0 ∷ run 5 6 2 ∷ run 6 9 0 ∷ []) 0 20 (countedTicks 6)
+    ∷ busyCounts (run 3 5 0 ∷ run 5 6 2 ∷ run 6 9 0 ∷ []) 4 8 (countedTicks 4)
+    ∷ busyCounts (run 3 5 0 ∷ run 8 10 4_294_967_295 ∷ []) 4 9 (countedTicks 2)
+    ∷ busyCounts [] 0 9 (countedTicks 0)
     -- an interval without a tick
-    ∷ busyCounts (run 3 7 1 ∷ []) 5 5 (counted 0)
-    ∷ busyCounts (run 3 7 1 ∷ []) 9 0 (counted 0)
+    ∷ busyCounts (run 3 7 1 ∷ []) 5 5 (countedTicks 0)
+    ∷ busyCounts (run 3 7 1 ∷ []) 9 0 (countedTicks 0)
     ∷ []
 
 -- The run list that the queries below are about: the second run begins where the first ends, and then two ticks are free.
@@ -585,11 +584,11 @@ lengthRows =
     ∷ limits maxText 13_632
     ∷ printsOver (1 ∷ 2 ∷ 3 ∷ []) (replicate 13_631 255) 0 (replicate 13_631 255)
     ∷ printsOver (1 ∷ 2 ∷ 3 ∷ []) (replicate 13_632 255) 3 (1 ∷ 2 ∷ 3 ∷ replicate 13_629 255)
-    -- the most bytes of a file, and what is held: of a file, of an input of the program, and of one of the program for what runs now
+    -- the most bytes of a file, and how many are read: of a file, of an input of the program `plan`, and of one of the program `now`
     ∷ limits maxFile 500
-    ∷ limits heldBytes 501
-    ∷ limits inputBytes 505
-    ∷ limits nowInputBytes 513
+    ∷ limits fileBytesRead 501
+    ∷ limits (inputBytes planFront) 505
+    ∷ limits (inputBytes nowFront) 513
     ∷ []
 
 -- Calls at a limit that are not refused.
@@ -618,7 +617,7 @@ largeRows =
     ∷ reads (fileOf (equalTasks 64 1 1)) 0 0 (equalTasks 64 1 1)
     -- 4,096 runs are accepted, and counted: they hold every tick of the interval
     ∷ checks (tickRuns 0 4_096) 0 0
-    ∷ busyCounts (tickRuns 0 4_096) 0 4_096 (counted 4_096)
+    ∷ busyCounts (tickRuns 0 4_096) 0 4_096 (countedTicks 4_096)
     ∷ []
 
 -- the rows whose test is computed, and all rows

@@ -23,7 +23,7 @@ use Rattle.schedule.specs.declared.Run.{Run}
 use Rattle.schedule.specs.Jobs.{jobAt}
 use Rattle.plans.specs.declared.Planned.{Planned}
 use Rattle.plans.specs.Planning.{listsFor, planReply, planMarks, planRuns}
-use Rattle.printed_plan.specs.ProgramInput.{printedInput}
+use Rattle.printed_plan.specs.ProgramInput.{planOutput}
 use Rattle.samples.specs.Inputs.{task, table, run, notWritten, notPlanned, planWith}
 
 -- a table with its file, a launch tick, the reply of planning into lists that are just long enough, and of a plan its marks and runs
@@ -374,5 +374,5 @@ Says (plan s) = PlanSays s
 Says (window s) =
     (jobAt (s .launch) (s .table) (s .position) .release ≡ s .release) × (jobAt (s .launch) (s .table) (s .position) .deadline ≡ s .deadline)
 Says (move s) = FileHolds (s .file) (s .table) × (moveReply (s .file) (s .shift) (length (s .file)) ≡ s .reply)
-Says (text s) = printedInput (s .input) ≡ s .text
+Says (text s) = planOutput (s .input) ≡ s .text
 Says (nesting s) = nestingAnswer (taskAt (s .table)) (s .table .count) ≡ Kind (s .place)

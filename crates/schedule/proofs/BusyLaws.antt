@@ -8,10 +8,10 @@ use native.Mathlib.Decide.{decLe}
 use Rattle.schedule.specs.declared.Busy.{Busy}
 use Rattle.schedule.specs.declared.Run.{Run}
 use Rattle.schedule.specs.declared.RunsAnswer.the-variants as checked
-use Rattle.schedule.specs.Ticks.{isOwned, countBelow, countIn, ticksOwned}
-use Rattle.schedule.specs.Runs.{runHolds, ownerOf}
-use Rattle.schedule.specs.Judging.{noneEmpty, followFrom, inOrder}
-use Rattle.schedule.specs.RunCheck.{runsAnswer}
+use Rattle.schedule.specs.Ticks.{isOwned, countBelow, countBetween, ticksOwned}
+use Rattle.schedule.specs.Runs.{runHolds, ownerOf, sumRuns}
+use Rattle.schedule.specs.Judging.{noneEmpty, followFrom, eachFollows}
+use Rattle.schedule.specs.RunCheck.{checkAnswer}
 use Rattle.schedule.specs.BusyCount.{shared, busySum, busyReply, CountsTicks}
 use Rattle.schedule.proofs.TickLaws.{count-grows, count-fits}
 use Rattle.schedule.proofs.RunLaws.{run-count, rest-nonempty, rest-follow, own-count, free-count}
@@ -31,7 +31,7 @@ no-more : (s m n : ℕ) → m ≤ n → 0 ≡ (m - s) - (n - s)
 no-more s m n h = omega arith
 
 -- what is added for a run is the number of ticks of the interval that it holds
-pub shared-is : (a b : ℕ) (run : Run) → shared a b run ≡ countIn (runHolds run) a b
+pub shared-is : (a b : ℕ) (run : Run) → shared a b run ≡ countBetween (runHolds run) a b
 unfolding shared
 shared-is a b run =
     rw (run-count run b, run-count run a)
@@ -44,7 +44,7 @@ shared-is a b run =
 
 -- of an empty interval the sum is 0
 sum-none-interval : (a b : ℕ) (runs : List Run) → b ≤ a → busySum a b runs ≡ 0
-unfolding busySum
+unfolding sumRuns
 sum-none-interval a b [] h = refl
 sum-none-interval a b (run ∷ runs) h = omega (arith, shared-none-interval a b run h, sum-none-interval a b runs h)
 
@@ -56,7 +56,7 @@ held-split from run runs ne fo n = rw (run-count run n) (own-count isOwned refl 
 -- so the sum is the number of ticks of the interval that some run holds
 sum-ordered : (from : ℕ) (runs : List Run) → noneEmpty runs ≡ true → followFrom from runs ≡ true → (a b : ℕ) → a ≤ b
     → busySum a b runs ≡ ticksOwned (ownerOf runs) a b
-unfolding busySum
+unfolding sumRuns
 sum-ordered from [] ne fo a b h = omega (arith, free-count isOwned refl a, free-count isOwned refl b)
 sum-ordered from (run ∷ runs) ne fo a b h =
     omega (
@@ -70,8 +70,8 @@ sum-ordered from (run ∷ runs) ne fo a b h =
     )
 
 -- so it is of every accepted list, and every interval
-pub sum-owned : (runs : List Run) → runsAnswer runs ≡ checked.Accepted → (a b : ℕ) → busySum a b runs ≡ ticksOwned (ownerOf runs) a b
-unfolding inOrder
+pub sum-owned : (runs : List Run) → checkAnswer runs ≡ checked.Accepted → (a b : ℕ) → busySum a b runs ≡ ticksOwned (ownerOf runs) a b
+unfolding eachFollows
 sum-owned runs accepted a b =
     let order = accepted-ordered runs accepted in
     elim (decLe a b) [
@@ -81,13 +81,13 @@ sum-owned runs accepted a b =
     ]
 
 -- and at most the length of the interval
-pub sum-most : (runs : List Run) → runsAnswer runs ≡ checked.Accepted → (a b : ℕ) → busySum a b runs ≤ b - a
+pub sum-most : (runs : List Run) → checkAnswer runs ≡ checked.Accepted → (a b : ℕ) → busySum a b runs ≤ b - a
 sum-most runs accepted a b = omega (arith, sum-owned runs accepted a b, count-fits (λ tick. isOwned (ownerOf runs tick)) a b)
 
 -- an accepted count is that number
 pub counts-ticks : (runs : List Run) (a b : ℕ) (reply : Busy) → reply ≡ busyReply runs a b → CountsTicks runs a b reply
 unfolding busyReply
 counts-ticks runs a b reply e zero-number =
-    let accepted = number-accepted (runsAnswer runs) (ap (λ (r : Busy). r .number) (sym e) ∙ zero-number) in
+    let accepted = number-accepted (checkAnswer runs) (ap (λ (r : Busy). r .number) (sym e) ∙ zero-number) in
     let ticks : reply .ticks ≡ busySum a b runs = ap (λ (r : Busy). r .ticks) e ∙ rw accepted in
     (ticks ∙ sum-owned runs accepted a b, omega (arith, sum-most runs accepted a b))

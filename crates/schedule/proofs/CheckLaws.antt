@@ -17,31 +17,31 @@ use Rattle.schedule.specs.declared.Run.{Run}
 use Rattle.schedule.specs.declared.RunsAnswer.{RunsAnswer}
 use Rattle.schedule.specs.declared.RunsAnswer.the-variants as checked
 use Rattle.schedule.specs.Runs.{noRun, tooMany}
-use Rattle.schedule.specs.Judging.{noneEmpty, followFrom, inOrder}
-use Rattle.schedule.specs.RunCheck.{previousEnd, outOfOrder, firstOutOfOrder, runsAnswer, runsNumber, runsAccepted}
+use Rattle.schedule.specs.Judging.{noneEmpty, followFrom, eachFollows}
+use Rattle.schedule.specs.RunCheck.{previousEnd, outOfOrder, firstOutOfOrder, checkAnswer, runsNumber, runsAccepted}
 use Rattle.schedule.proofs.RunLaws.{first-follows, rest-follow}
 use Rattle.schedule.proofs.JudgeLaws.{nonempty-each}
 
 -- The three answers.
 
 -- too many runs are refused first, whatever they are
-pub many-refused : (runs : List Run) → tooMany runs ≡ true → runsAnswer runs ≡ checked.TooMany
-unfolding runsAnswer
+pub many-refused : (runs : List Run) → tooMany runs ≡ true → checkAnswer runs ≡ checked.TooMany
+unfolding checkAnswer
 many-refused runs e = rw e
 
 -- then the first index that is out of order
 pub order-refused : (runs : List Run) → tooMany runs ≡ false → firstOutOfOrder runs < length runs
-    → runsAnswer runs ≡ checked.OutOfOrder (firstOutOfOrder runs)
-unfolding runsAnswer
+    → checkAnswer runs ≡ checked.OutOfOrder (firstOutOfOrder runs)
+unfolding checkAnswer
 order-refused runs e l = rw (e, lt-ltb (firstOutOfOrder runs) (length runs) l)
 
 -- and where no index is, the list is accepted
-pub accepts : (runs : List Run) → tooMany runs ≡ false → length runs ≤ firstOutOfOrder runs → runsAnswer runs ≡ checked.Accepted
-unfolding runsAnswer
+pub accepts : (runs : List Run) → tooMany runs ≡ false → length runs ≤ firstOutOfOrder runs → checkAnswer runs ≡ checked.Accepted
+unfolding checkAnswer
 accepts runs e l = rw (e, le-ltb (firstOutOfOrder runs) (length runs) l)
 
 -- only there
-pub accepted-known : (runs : List Run) → runsAnswer runs ≡ checked.Accepted → (tooMany runs ≡ false) × (firstOutOfOrder runs ≡ length runs)
+pub accepted-known : (runs : List Run) → checkAnswer runs ≡ checked.Accepted → (tooMany runs ≡ false) × (firstOutOfOrder runs ≡ length runs)
 unfolding firstOutOfOrder
 accepted-known runs h =
     cases (tooMany runs)
@@ -100,7 +100,7 @@ ordered-exactly runs = (
     previous-ended runs o (suc k) l = o .follow k l
 
 -- an accepted list is ordered
-pub accepted-order : (runs : List Run) → runsAnswer runs ≡ checked.Accepted → OrderedRuns runs
+pub accepted-order : (runs : List Run) → checkAnswer runs ≡ checked.Accepted → OrderedRuns runs
 accepted-order runs h = ordered-exactly runs .0 (accepted-known runs h .1)
 
 -- Of an ordered list starts and ends do not fall with the index.
@@ -154,8 +154,8 @@ index-follow from (run ∷ runs) f h =
     (index-follow (run .end) runs (λ l. h 0 (omega arith)) (λ k l. h (suc k) (omega arith)))
 
 -- a list is ordered by index exactly where the judge's first two conditions hold
-pub judge-order : (runs : List Run) → OrderedRuns runs ↔ ((noneEmpty runs ≡ true) × (inOrder runs ≡ true))
-unfolding inOrder
+pub judge-order : (runs : List Run) → OrderedRuns runs ↔ ((noneEmpty runs ≡ true) × (eachFollows runs ≡ true))
+unfolding eachFollows
 judge-order runs = (
   λ o. (
     nonempty-each runs .1 (all-indices (λ run. run .start < run .end) runs (o .nonempty)),
@@ -168,15 +168,15 @@ judge-order runs = (
 )
 
 -- so the check of 15 is these two conditions, said once more by index
-pub broken-exactly : (runs : List Run) → (firstOutOfOrder runs ≡ length runs) ↔ ((noneEmpty runs ≡ true) × (inOrder runs ≡ true))
-broken-exactly runs = (
+pub order-conditions : (runs : List Run) → (firstOutOfOrder runs ≡ length runs) ↔ ((noneEmpty runs ≡ true) × (eachFollows runs ≡ true))
+order-conditions runs = (
   λ e. judge-order runs .0 (ordered-exactly runs .0 e),
   λ h. ordered-exactly runs .1 (judge-order runs .1 h),
 )
 
 -- they hold of every accepted list, and a list of which they hold is accepted, if its runs are not too many
-pub accepted-ordered : (runs : List Run) → runsAnswer runs ≡ checked.Accepted → (noneEmpty runs ≡ true) × (inOrder runs ≡ true)
+pub accepted-ordered : (runs : List Run) → checkAnswer runs ≡ checked.Accepted → (noneEmpty runs ≡ true) × (eachFollows runs ≡ true)
 accepted-ordered runs h = judge-order runs .0 (accepted-order runs h)
 
-pub ordered-accepted : (runs : List Run) → tooMany runs ≡ false → (noneEmpty runs ≡ true) × (inOrder runs ≡ true) → runsAnswer runs ≡ checked.Accepted
-ordered-accepted runs few h = let e = broken-exactly runs .1 h in accepts runs few (omega arith)
+pub ordered-accepted : (runs : List Run) → tooMany runs ≡ false → (noneEmpty runs ≡ true) × (eachFollows runs ≡ true) → checkAnswer runs ≡ checked.Accepted
+ordered-accepted runs few h = let e = order-conditions runs .1 h in accepts runs few (omega arith)

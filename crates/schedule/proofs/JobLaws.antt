@@ -7,8 +7,10 @@ use Rattle.clock.proofs.ClockLaws.{ticks-bounded}
 use Rattle.table.specs.declared.Table.{Table}
 use Rattle.table.specs.Tables.{taskAt}
 use Rattle.table.specs.Writing.{Legal}
-use Rattle.table.proofs.FileLaws.{narrow-known, period-known}
-use Rattle.schedule.specs.Jobs.{jobOf, jobAt, Bounded}
+use Rattle.table.proofs.FileLaws.{narrow-known}
+use Rattle.schedule.specs.Jobs.{jobOf, jobAt}
+use Rattle.schedule.specs.JobArrays.{Bounded}
+use Rattle.table.proofs.RowFiles.{period-known}
 
 -- the period of an accepted table, and its frames
 pub legal-period : (t : Table) → Legal t → LegalPeriod (t .p) (t .q)

@@ -1,27 +1,28 @@
 -- Two freedoms that the judge leaves to a keep list and a run list: marks at optional parts of 0 ticks, and runs of one task that touch.
-use Prim.Native.Nat.{ℕ, _≤_, _<_}
+use Prim.Native.Nat.{ℕ, _+_, _-_, _≤_, _<_}
 use mathlib.Core.Path.{_≡_, refl, sym, ap, _∙_}
 use mathlib.Core.List.{List, [], _∷_, _++_}
-use mathlib.Core.Bool.{Bool, not}
+use mathlib.Core.Bool.{Bool, and-false}
 use native.Mathlib.Omega.{arith}
 use lib.Dec.{leb, ltb, eqb}
-use lib.ListN.{length, getD}
+use lib.ListN.{getD}
 use borrow.Author.Tests.{leb-true, ltb-true, ltb-false, le-leb, lt-ltb}
-use Rattle.base.specs.Tests.{and}
-use Rattle.base.specs.Lowest.{someBelow}
-use Rattle.base.proofs.TestLaws.{cases, pick-same, and-again, and-none}
+use Rattle.base.specs.Tests.{pick, and}
+use Rattle.base.proofs.TestLaws.{cases, pick-same}
+use Rattle.base.proofs.LowestLaws.{every-same}
 use Rattle.base.proofs.LowestLaws as lowest-laws
-use Rattle.clock.specs.Clock.{badLaunch}
 use Rattle.table.specs.declared.Table.{Table}
 use Rattle.table.specs.Answers.{isAccepted}
 use Rattle.table.specs.Reading.{tableIn, readAnswer}
 use Rattle.schedule.specs.declared.Job.{Job}
 use Rattle.schedule.specs.declared.Run.{Run}
 use Rattle.schedule.specs.Jobs.{jobOf, jobAt, workOf, counts}
-use Rattle.schedule.specs.Runs.{runOf, tooMany}
-use Rattle.schedule.specs.Judging.{noneEmpty, followFrom, inOrder, knownTasks, inWindows, totalOf, exactTotals, verdictBy, verdict}
-use Rattle.schedule.specs.Judging.{keptCount, discardedCount, firstBadMark, judgeSays, judgeBy, judgeTable, judged, SameAtParts, EquallyGood}
+use Rattle.schedule.specs.Runs.{runOf, everyRun, sumRuns}
+use Rattle.schedule.specs.Judging.{noneEmpty, followFrom, eachFollows, knownTasks, insideWindow, inWindows, totalOf, exactTotals, verdictByJobs, verdict}
+use Rattle.schedule.specs.Judging.{countMarked, keptCount, discardedCount, judgeSays, judgeFile, judgeReply}
+use Rattle.schedule.specs.Freedoms.{SameAtParts, EquallyGood}
 use Rattle.schedule.proofs.TickLaws.{count-same}
+use Rattle.schedule.proofs.JudgeLaws.{table-says}
 
 -- 'A mark of 1 or 0 for an optional part of 0 ticks is equally good.'
 
@@ -38,16 +39,15 @@ count-free job mark other v h = cases (counts job) (λ c. rw (h (ltb-true 0 (job
 -- each task's runs total its work: tests that agree at every task
 exact-free : (launch : ℕ) (t : Table) (marks other : List ℕ) (runs : List Run) → SameAtParts t marks other
     → exactTotals (jobAt launch t) marks (t .count) runs ≡ exactTotals (jobAt launch t) other (t .count) runs
-unfolding exactTotals someBelow jobAt jobOf
+unfolding jobAt jobOf
 exact-free launch t marks other runs h =
-    let test : List ℕ → ℕ → Bool = λ list k. not (eqb (totalOf runs k) (workOf (jobAt launch t k) (getD list k 0))) in
-    ap (λ (k : ℕ). not (ltb k (t .count)))
-    (lowest-laws.same (test marks) (test other) (t .count)
-    (λ k l. ap (λ (work : ℕ). not (eqb (totalOf runs k) work)) (work-free (jobAt launch t k) (getD marks k 0) (getD other k 0) (h k l))))
+    let test : List ℕ → ℕ → Bool = λ list k. eqb (totalOf runs k) (workOf (jobAt launch t k) (getD list k 0)) in
+    every-same (test marks) (test other) (t .count)
+    (λ k l. ap (eqb (totalOf runs k)) (work-free (jobAt launch t k) (getD marks k 0) (getD other k 0) (h k l)))
 
 -- marks at optional parts of 0 ticks are free: whatever they are, the lists are equally good
 pub zero-marks-free : (launch : ℕ) (t : Table) (marks other : List ℕ) (runs : List Run) → SameAtParts t marks other → EquallyGood launch t marks other runs
-unfolding verdict verdictBy keptCount discardedCount jobAt jobOf
+unfolding verdict verdictByJobs countMarked jobAt jobOf
 zero-marks-free launch t marks other runs h =
     let enters : List ℕ → ℕ → ℕ → Bool = λ list v k. and (counts (jobAt launch t k)) (eqb (getD list k 0) v) in
     let same : (v k : ℕ) → k < t .count → enters marks v k ≡ enters other v k = λ v k l. count-free (jobAt launch t k) (getD marks k 0) (getD other k 0) v (h k l) in
@@ -65,28 +65,11 @@ zero-marks-says launch t marks other runs h =
     let good = zero-marks-free launch t marks other runs h in
     rw (good .yes, good .kept, good .discarded)
 
--- the reply of a judge that refuses nothing
-table-says : (launch : ℕ) (t : Table) (marks : List ℕ) (runs : List Run) → judgeTable launch t marks runs .number ≡ 0
-    → judgeTable launch t marks runs ≡ judgeSays (verdict launch t marks runs) (keptCount t marks) (discardedCount t marks)
-unfolding judgeTable judgeBy verdict
-table-says launch t marks runs =
-    cases (badLaunch launch)
-    (λ d. rw d (λ z. absurd (omega arith)))
-    (λ d.
-    rw d
-    (cases (not (eqb (length marks) (t .count)))
-    (λ e. rw e (λ z. absurd (omega arith)))
-    (λ e.
-    rw e
-    (cases (ltb (firstBadMark marks (t .count)) (t .count))
-    (λ f. rw f (λ z. absurd (omega arith)))
-    (λ f. rw f (cases (tooMany runs) (λ g. rw g (λ z. absurd (omega arith))) (λ g. rw g (λ z. refl))))))))
-
 -- and where it refuses neither list, its two replies are one
 pub zero-marks-judged : (launch : ℕ) (file marks other : List ℕ) (runs : List Run) → SameAtParts (tableIn file) marks other
-    → judged launch file marks runs .number ≡ 0 → judged launch file other runs .number ≡ 0
-    → judged launch file marks runs ≡ judged launch file other runs
-unfolding judged
+    → judgeReply launch file marks runs .number ≡ 0 → judgeReply launch file other runs .number ≡ 0
+    → judgeReply launch file marks runs ≡ judgeReply launch file other runs
+unfolding judgeReply judgeFile
 zero-marks-judged launch file marks other runs h =
     let t = tableIn file in
     cases (isAccepted (readAnswer file))
@@ -101,10 +84,21 @@ zero-marks-judged launch file marks other runs h =
 
 -- A run from s to e is cut at m, and stands between other runs. Each condition of the verdict by itself.
 module _ (s m e k : ℕ) (first : s < m) (second : m < e) (after : List Run) where
+  -- a test that the whole run passes exactly where both parts do, and a number of it that is the sum of theirs
+  every-cut : (test : Run → Bool) → test (runOf s e k) ≡ and (test (runOf s m k)) (test (runOf m e k)) → (before : List Run)
+      → everyRun test (before ++ runOf s e k ∷ after) ≡ everyRun test (before ++ runOf s m k ∷ runOf m e k ∷ after)
+  unfolding everyRun
+  every-cut test h [] = rw h (cases (test (runOf s m k)) (λ t. rw t) (λ t. rw t))
+  every-cut test h (run ∷ before) = rw (every-cut test h before)
+
+  sum-cut : (number : Run → ℕ) → number (runOf s e k) ≡ number (runOf s m k) + number (runOf m e k) → (before : List Run)
+      → sumRuns number (before ++ runOf s e k ∷ after) ≡ sumRuns number (before ++ runOf s m k ∷ runOf m e k ∷ after)
+  unfolding sumRuns
+  sum-cut number h [] = omega (arith, h)
+  sum-cut number h (run ∷ before) = rw (sum-cut number h before)
+
   nonempty-cut : (before : List Run) → noneEmpty (before ++ runOf s e k ∷ after) ≡ noneEmpty (before ++ runOf s m k ∷ runOf m e k ∷ after)
-  unfolding noneEmpty
-  nonempty-cut [] = rw (lt-ltb s e (omega arith), lt-ltb s m first, lt-ltb m e second)
-  nonempty-cut (run ∷ before) = rw (nonempty-cut before)
+  nonempty-cut = every-cut (λ run. ltb (run .start) (run .end)) (rw (lt-ltb s e (omega arith), lt-ltb s m first, lt-ltb m e second))
 
   follow-cut : (from : ℕ) (before : List Run)
       → followFrom from (before ++ runOf s e k ∷ after) ≡ followFrom from (before ++ runOf s m k ∷ runOf m e k ∷ after)
@@ -114,43 +108,38 @@ module _ (s m e k : ℕ) (first : s < m) (second : m < e) (after : List Run) whe
 
   known-cut : (n : ℕ) (before : List Run)
       → knownTasks n (before ++ runOf s e k ∷ after) ≡ knownTasks n (before ++ runOf s m k ∷ runOf m e k ∷ after)
-  unfolding knownTasks
-  known-cut n [] = sym (and-again (ltb k n) (knownTasks n after))
-  known-cut n (run ∷ before) = rw (known-cut n before)
+  known-cut n = every-cut (λ run. ltb (run .task) n) (cases (ltb k n) (λ t. rw t) (λ t. rw t))
 
   -- one window: the whole run is in it exactly where both parts are
-  window-cut : (lo hi : ℕ) (rest : Bool)
-      → and (and (leb lo s) (leb e hi)) rest ≡ and (and (leb lo s) (leb m hi)) (and (and (leb lo m) (leb e hi)) rest)
-  window-cut lo hi rest =
+  window-cut : (own : Job) → insideWindow own (runOf s e k) ≡ and (insideWindow own (runOf s m k)) (insideWindow own (runOf m e k))
+  window-cut own =
+      let lo = own .release in
+      let hi = own .deadline in
       cases (leb lo s)
       (λ a.
       let low : lo ≤ s = leb-true lo s a in
       rw (a, le-leb lo m (omega arith))
       (cases (leb e hi)
       (λ b. let high : e ≤ hi = leb-true e hi b in rw (b, le-leb m hi (omega arith)))
-      (λ b. rw (b, and-none (leb m hi)))))
+      (λ b. rw (b, and-false (leb m hi)))))
       (λ a. rw a)
 
   windows-cut : (job : ℕ → Job) (before : List Run)
       → inWindows job (before ++ runOf s e k ∷ after) ≡ inWindows job (before ++ runOf s m k ∷ runOf m e k ∷ after)
-  unfolding inWindows
-  windows-cut job [] = window-cut (job k .release) (job k .deadline) (inWindows job after)
-  windows-cut job (run ∷ before) = rw (windows-cut job before)
+  windows-cut job = every-cut (λ run. insideWindow (job (run .task)) run) (window-cut (job k))
 
   total-cut : (before : List Run) (i : ℕ) → totalOf (before ++ runOf s e k ∷ after) i ≡ totalOf (before ++ runOf s m k ∷ runOf m e k ∷ after) i
-  unfolding totalOf
-  total-cut [] i = cases (eqb k i) (λ t. rw t (omega arith)) (λ t. rw t (omega arith))
-  total-cut (run ∷ before) i = rw (total-cut before i)
+  total-cut before i =
+      sum-cut (λ run. pick (eqb (run .task) i) (run .end - run .start) 0) (cases (eqb k i) (λ t. rw t (omega arith)) (λ t. rw t (omega arith))) before
 
   exact-cut : (job : ℕ → Job) (marks : List ℕ) (n : ℕ) (before : List Run)
       → exactTotals job marks n (before ++ runOf s e k ∷ after) ≡ exactTotals job marks n (before ++ runOf s m k ∷ runOf m e k ∷ after)
-  unfolding exactTotals
-  exact-cut job marks n before = simp (total-cut before)
+  exact-cut job marks n before = every-same _ _ n (λ i l. rw (total-cut before i))
 
 -- a run cut in two that touch is judged as the whole one
 pub touching-runs-free : (launch : ℕ) (t : Table) (marks : List ℕ) (before after : List Run) (s m e k : ℕ) → s < m → m < e
     → verdict launch t marks (before ++ runOf s e k ∷ after) ≡ verdict launch t marks (before ++ runOf s m k ∷ runOf m e k ∷ after)
-unfolding verdict verdictBy inOrder
+unfolding verdict verdictByJobs eachFollows
 touching-runs-free launch t marks before after s m e k first second =
     rw (
       nonempty-cut s m e k first second after before,

@@ -2,18 +2,17 @@
 use Prim.Native.Nat.{ℕ, zero, suc, _+_, _-_, _≤_, _<_}
 use mathlib.Core.Path.{_≡_, refl, sym, ap, _∙_}
 use mathlib.Core.Logic.{_↔_, inl, inr}
-use mathlib.Core.List.{List, [], _∷_}
+use mathlib.Core.List.{List}
 use mathlib.Core.Bool.{Bool, true, false, not}
 use mathlib.Core.Option.{some}
 use native.Mathlib.Omega.{arith}
 use lib.Dec.{leb, ltb, eqb}
 use lib.ListN.{length, getD}
-use borrow.Author.Tests.{leb-true, ltb-true, eqb-true, eqb-false, le-leb, lt-ltb, eq-eqb, ne-eqb, not-true, not-false}
+use borrow.Author.Tests.{leb-true, ltb-true, eqb-true, eqb-false, le-leb, lt-ltb, eq-eqb, ne-eqb}
 use Rattle.base.specs.Tests.{and}
-use Rattle.base.specs.Lowest.{someBelow}
 use Rattle.base.specs.Places.{placesFrom, places}
 use Rattle.base.proofs.TestLaws.{cases, and-true, and-left, and-right}
-use Rattle.base.proofs.LowestLaws.{no-some, none-some}
+use Rattle.base.proofs.LowestLaws.{every-below}
 use Rattle.clock.specs.Clock.{badLaunch}
 use Rattle.table.specs.declared.Table.{Table}
 use Rattle.table.specs.declared.Answer.{Answer}
@@ -21,81 +20,61 @@ use Rattle.table.specs.Answers.{numberOf, isAccepted}
 use Rattle.table.specs.Reading.{tableIn, readAnswer}
 use Rattle.table.proofs.AnswerLaws.{refused-number}
 use Rattle.schedule.specs.declared.Job.{Job}
+use Rattle.schedule.specs.declared.Judged.{Judged}
 use Rattle.schedule.specs.Jobs.{jobOf, jobAt, jobsOf, workOf, counts}
-use Rattle.schedule.specs.Ticks.{Owner, one, countBelow}
-use Rattle.schedule.specs.Runnings.{WindowHolds, got, Gets, discards}
+use Rattle.schedule.specs.Ticks.{Owner, oneIf, countBelow, sumBelow}
+use Rattle.schedule.specs.Runnings.{WindowHolds, got, Gets, discards, Whole}
 use Rattle.base.specs.Members.{All, Any}
 use Rattle.base.proofs.MemberLaws.{all-map, any-map, all-members, any-member, all-places, any-places}
 use Rattle.schedule.specs.declared.Run.{Run}
 use Rattle.schedule.specs.Runs.{runHolds, ownerOf, Together, tooMany}
-use Rattle.schedule.specs.Judging.{noneEmpty, inOrder, knownTasks, inWindows, totalOf, exactTotals, verdictBy, verdict, discardedCount, firstBadMark, judgeBy, judgeTable, judged, Acceptable}
-use Rattle.schedule.proofs.RunLaws.{in-holds, run-holds, first-nonempty, rest-nonempty, owner-is-run, owner-has-run, run-ticks}
+use Rattle.schedule.specs.Judging.{noneEmpty, eachFollows, knownTasks, insideWindow, inWindows, totalOf, exactTotals, verdictByJobs, verdict, countMarked, keptCount, discardedCount, firstBadMark, judgeSays, judgeByVerdict, judgeTable, judgeFile, judgeReply, Acceptable}
+use Rattle.schedule.proofs.RunLaws.{in-holds, run-holds, every-each, owner-is-run, owner-has-run, run-ticks}
 
 -- The conditions of the verdict, as facts of each run and of each task.
 
 -- every start is below its end
 pub nonempty-each : (runs : List Run) → (noneEmpty runs ≡ true) ↔ All (λ run. run .start < run .end) runs
-unfolding noneEmpty
-nonempty-each [] = (λ e. tt, λ h. refl)
-nonempty-each (run ∷ runs) = (
-  λ e. (first-nonempty run runs e, nonempty-each runs .0 (rest-nonempty run runs e)),
-  λ h. and-true (ltb (run .start) (run .end)) (noneEmpty runs) (lt-ltb (run .start) (run .end) (h .0)) (nonempty-each runs .1 (h .1)),
-)
+nonempty-each =
+    every-each (λ run. ltb (run .start) (run .end)) (λ run. run .start < run .end)
+    (λ run. (ltb-true (run .start) (run .end), lt-ltb (run .start) (run .end)))
 
 -- every task number is below n
 pub known-each : (n : ℕ) (runs : List Run) → (knownTasks n runs ≡ true) ↔ All (λ run. run .task < n) runs
-unfolding knownTasks
-known-each n [] = (λ e. tt, λ h. refl)
-known-each n (run ∷ runs) = (
-  λ e. (
-    ltb-true (run .task) n (and-left (ltb (run .task) n) (knownTasks n runs) e),
-    known-each n runs .0 (and-right (ltb (run .task) n) (knownTasks n runs) e),
-  ),
-  λ h. and-true (ltb (run .task) n) (knownTasks n runs) (lt-ltb (run .task) n (h .0)) (known-each n runs .1 (h .1)),
-)
+known-each n = every-each (λ run. ltb (run .task) n) (λ run. run .task < n) (λ run. (ltb-true (run .task) n, lt-ltb (run .task) n))
 
--- the run lies in its window
+-- every run is inside its window
 abbrev pub InWindow : (ℕ → Job) → Run → Type 0
 InWindow job run = (job (run .task) .release ≤ run .start) × (run .end ≤ job (run .task) .deadline)
 
-window-test : (lo start end hi : ℕ) → (and (leb lo start) (leb end hi) ≡ true) ↔ ((lo ≤ start) × (end ≤ hi))
-window-test lo start end hi = (
-  λ e. (leb-true lo start (and-left (leb lo start) (leb end hi) e), leb-true end hi (and-right (leb lo start) (leb end hi) e)),
-  λ h. and-true (leb lo start) (leb end hi) (le-leb lo start (h .0)) (le-leb end hi (h .1)),
-)
-
--- every run is inside its window
 pub windows-each : (job : ℕ → Job) (runs : List Run) → (inWindows job runs ≡ true) ↔ All (InWindow job) runs
-unfolding inWindows
-windows-each job [] = (λ e. tt, λ h. refl)
-windows-each job (run ∷ runs) =
-    let lo = job (run .task) .release in
-    let hi = job (run .task) .deadline in
-    let b = and (leb lo (run .start)) (leb (run .end) hi) in
-    let w = window-test lo (run .start) (run .end) hi in (
-      λ e. (w .0 (and-left b (inWindows job runs) e), windows-each job runs .0 (and-right b (inWindows job runs) e)),
-      λ h. and-true b (inWindows job runs) (w .1 (h .0)) (windows-each job runs .1 (h .1)),
-    )
+windows-each job = every-each (λ run. insideWindow (job (run .task)) run) (InWindow job) (λ run. window-test (job (run .task)) run)
+  where
+    window-test : (own : Job) (run : Run) → (insideWindow own run ≡ true) ↔ ((own .release ≤ run .start) × (run .end ≤ own .deadline))
+    window-test own run =
+        let late = leb (own .release) (run .start) in
+        let early = leb (run .end) (own .deadline) in (
+          λ e. (leb-true (own .release) (run .start) (and-left late early e), leb-true (run .end) (own .deadline) (and-right late early e)),
+          λ h. and-true late early (le-leb (own .release) (run .start) (h .0)) (le-leb (run .end) (own .deadline) (h .1)),
+        )
 
 -- each task's runs total its work
 pub totals-each : (job : ℕ → Job) (marks : List ℕ) (n : ℕ) (runs : List Run)
     → (exactTotals job marks n runs ≡ true) ↔ ((k : ℕ) → k < n → totalOf runs k ≡ workOf (job k) (getD marks k 0))
-unfolding exactTotals
 totals-each job marks n runs =
-    let test : ℕ → Bool = λ k. not (eqb (totalOf runs k) (workOf (job k) (getD marks k 0))) in (
-      λ e k l.
-          eqb-true (totalOf runs k) (workOf (job k) (getD marks k 0))
-          (not-false (eqb (totalOf runs k) (workOf (job k) (getD marks k 0))) (no-some test n (not-true (someBelow test n) e) k l)),
-      λ h. rw (none-some test n (λ k l. rw (eq-eqb (totalOf runs k) (workOf (job k) (getD marks k 0)) (h k l)))),
+    let work : ℕ → ℕ = λ k. workOf (job k) (getD marks k 0) in
+    let each = every-below (λ k. eqb (totalOf runs k) (work k)) n in (
+      λ e k l. eqb-true (totalOf runs k) (work k) (each .0 e k l),
+      λ h. each .1 (λ k l. eq-eqb (totalOf runs k) (work k) (h k l)),
     )
 
 -- the verdict is yes exactly where all five hold
 pub verdict-five : (launch : ℕ) (t : Table) (marks : List ℕ) (runs : List Run)
     → (verdict launch t marks runs ≡ true)
-    ↔ ((noneEmpty runs ≡ true) × (inOrder runs ≡ true) × (knownTasks (t .count) runs ≡ true) × (inWindows (jobAt launch t) runs ≡ true)
+    ↔ ((noneEmpty runs ≡ true) × (eachFollows runs ≡ true) × (knownTasks (t .count) runs ≡ true) × (inWindows (jobAt launch t) runs ≡ true)
     × (exactTotals (jobAt launch t) marks (t .count) runs ≡ true))
-unfolding verdict verdictBy
-verdict-five launch t marks runs = five (noneEmpty runs) (inOrder runs) (knownTasks (t .count) runs) (inWindows (jobAt launch t) runs) (exactTotals (jobAt launch t) marks (t .count) runs)
+unfolding verdict verdictByJobs
+verdict-five launch t marks runs = five (noneEmpty runs) (eachFollows runs) (knownTasks (t .count) runs) (inWindows (jobAt launch t) runs) (exactTotals (jobAt launch t) marks (t .count) runs)
   where
     five : (a b c d e : Bool) → (and a (and b (and c (and d e))) ≡ true) ↔ ((a ≡ true) × (b ≡ true) × (c ≡ true) × (d ≡ true) × (e ≡ true))
     five a b c d e = (
@@ -127,9 +106,9 @@ job-holds launch t tick i = (
 )
 
 -- in order and in the windows, a task's job gets what the task's runs total
-pub got-total : (launch : ℕ) (t : Table) (runs : List Run) → noneEmpty runs ≡ true → inOrder runs ≡ true → All (InWindow (jobAt launch t)) runs
+pub got-total : (launch : ℕ) (t : Table) (runs : List Run) → noneEmpty runs ≡ true → eachFollows runs ≡ true → All (InWindow (jobAt launch t)) runs
     → (k : ℕ) → got (ownerOf runs) (jobAt launch t k) ≡ totalOf runs k
-unfolding inOrder
+unfolding eachFollows
 got-total launch t runs ne io w k =
     rw (job-position launch t k)
     (run-ticks 0 runs ne io k (jobAt launch t k .release) (jobAt launch t k .deadline)
@@ -137,7 +116,7 @@ got-total launch t runs ne io w k =
     (λ run h e. rw (← e) h) w))
 
 -- a job that gets the work of its mark gets one of its two amounts
-work-gets : (owner : Owner) (job : Job) (mark : ℕ) → got owner job ≡ workOf job mark → Gets owner job
+work-gets : (owner : Owner) (job : Job) (mark : ℕ) → got owner job ≡ workOf job mark → Gets Whole owner job
 work-gets owner job mark e =
     cases (eqb mark 1)
     (λ h. inr (rw h at e))
@@ -154,7 +133,7 @@ owned-in launch t runs known win tick i e =
     (k, omega arith, omega arith)
 
 -- a yes: the keep list and the runs are together a running
-yes-together : (launch : ℕ) (t : Table) (marks : List ℕ) (runs : List Run) → noneEmpty runs ≡ true → inOrder runs ≡ true → All (λ run. run .task < t .count) runs
+yes-together : (launch : ℕ) (t : Table) (marks : List ℕ) (runs : List Run) → noneEmpty runs ≡ true → eachFollows runs ≡ true → All (λ run. run .task < t .count) runs
     → All (InWindow (jobAt launch t)) runs → ((k : ℕ) → k < t .count → totalOf runs k ≡ workOf (jobAt launch t k) (getD marks k 0)) → Together (jobsOf launch t) marks runs
 unfolding jobsOf
 yes-together launch t marks runs ne io known win total =
@@ -163,7 +142,7 @@ yes-together launch t marks runs ne io known win total =
     record {
       running = record {
         inside = λ tick i e. job-holds launch t tick i .1 (owned-in launch t runs known win tick i e);
-        gets = all-map Works (Gets (ownerOf runs)) (jobsOf launch t) (λ job e. work-gets (ownerOf runs) job (getD marks (job .position) 0) e) works;
+        gets = all-map Works (Gets Whole (ownerOf runs)) (jobsOf launch t) (λ job e. work-gets (ownerOf runs) job (getD marks (job .position) 0) e) works;
       };
       work = works;
     }
@@ -177,16 +156,16 @@ together-work launch t marks runs g k l =
     ∙ ap (λ p. workOf (jobAt launch t k) (getD marks p 0)) (job-position launch t k)
 
 -- together a running: each run's task is in the table and has the run's ticks in its window
-run-tick : (launch : ℕ) (t : Table) (marks : List ℕ) (runs : List Run) → noneEmpty runs ≡ true → inOrder runs ≡ true → Together (jobsOf launch t) marks runs
+run-tick : (launch : ℕ) (t : Table) (marks : List ℕ) (runs : List Run) → noneEmpty runs ≡ true → eachFollows runs ≡ true → Together (jobsOf launch t) marks runs
     → (run : Run) → Any (λ r. r ≡ run) runs → (tick : ℕ) → run .start ≤ tick → tick < run .end
     → (run .task < t .count) × (jobAt launch t (run .task) .release ≤ tick) × (tick < jobAt launch t (run .task) .deadline)
-unfolding inOrder
+unfolding eachFollows
 run-tick launch t marks runs ne io g run m tick a b =
     let held = any-map (λ r. r ≡ run) (λ r. (runHolds r tick ≡ true) × (r .task ≡ run .task)) runs (λ r e. rw e (in-holds run tick a b, refl)) m in
     job-holds launch t tick (run .task) .0 (g .running .inside tick (run .task) (owner-is-run 0 runs ne io tick (run .task) held))
 
 -- so the run lies in its window
-run-inside : (launch : ℕ) (t : Table) (marks : List ℕ) (runs : List Run) → noneEmpty runs ≡ true → inOrder runs ≡ true → Together (jobsOf launch t) marks runs
+run-inside : (launch : ℕ) (t : Table) (marks : List ℕ) (runs : List Run) → noneEmpty runs ≡ true → eachFollows runs ≡ true → Together (jobsOf launch t) marks runs
     → (run : Run) → Any (λ r. r ≡ run) runs → (run .task < t .count) × InWindow (jobAt launch t) run
 run-inside launch t marks runs ne io g run m =
     let l = all-members (λ r. r .start < r .end) runs .0 (nonempty-each runs .0 ne) run m in
@@ -195,13 +174,13 @@ run-inside launch t marks runs ne io g run m =
     (first .0, (first .1, omega arith))
 
 -- together a running: each task's runs total its work
-together-total : (launch : ℕ) (t : Table) (marks : List ℕ) (runs : List Run) → noneEmpty runs ≡ true → inOrder runs ≡ true → All (InWindow (jobAt launch t)) runs
+together-total : (launch : ℕ) (t : Table) (marks : List ℕ) (runs : List Run) → noneEmpty runs ≡ true → eachFollows runs ≡ true → All (InWindow (jobAt launch t)) runs
     → Together (jobsOf launch t) marks runs → (k : ℕ) → k < t .count → totalOf runs k ≡ workOf (jobAt launch t k) (getD marks k 0)
 together-total launch t marks runs ne io win g k l = sym (got-total launch t runs ne io win k) ∙ together-work launch t marks runs g k l
 
 -- the theorem of the judge: yes exactly where the runs are not empty, are in order, and are with the keep list a running
 pub judge-verdict : (launch : ℕ) (t : Table) (marks : List ℕ) (runs : List Run)
-    → (verdict launch t marks runs ≡ true) ↔ ((noneEmpty runs ≡ true) × (inOrder runs ≡ true) × Together (jobsOf launch t) marks runs)
+    → (verdict launch t marks runs ≡ true) ↔ ((noneEmpty runs ≡ true) × (eachFollows runs ≡ true) × Together (jobsOf launch t) marks runs)
 judge-verdict launch t marks runs = (
   λ e.
       let v = verdict-five launch t marks runs .0 e in (
@@ -227,17 +206,17 @@ judge-verdict launch t marks runs = (
 discards-from : (at : ℕ → Job) (owner : Owner) (test : ℕ → Bool) (i n : ℕ)
     → ((k : ℕ) → i ≤ k → k < i + n → and (counts (at k)) (eqb (got owner (at k)) (at k .mandatory)) ≡ test k)
     → discards (placesFrom at i n) owner + countBelow test i ≡ countBelow test (i + n)
-unfolding discards placesFrom countBelow
+unfolding discards placesFrom sumBelow
 discards-from at owner test i zero h = let e : i + 0 ≡ i = omega arith in rw e (omega arith)
 discards-from at owner test i (suc n) h =
     let e : suc i + n ≡ i + suc n = omega arith in
     let q = discards-from at owner test (suc i) n (λ k l m. h k (omega arith) (omega arith)) in
-    rw (← e) (omega (arith, q, ap one (h i (omega arith) (omega arith))))
+    rw (← e) (omega (arith, q, ap oneIf (h i (omega arith) (omega arith))))
 
 -- what a running discards, place by place
 pub discards-places : (at : ℕ → Job) (owner : Owner) (test : ℕ → Bool) (n : ℕ)
     → ((k : ℕ) → k < n → and (counts (at k)) (eqb (got owner (at k)) (at k .mandatory)) ≡ test k) → discards (places at n) owner ≡ countBelow test n
-unfolding places countBelow
+unfolding places sumBelow
 discards-places at owner test n h =
     let e : 0 + n ≡ n = omega arith in
     omega (arith, rw e at (discards-from at owner test 0 n (λ k l m. h k (omega arith))))
@@ -263,17 +242,16 @@ discarded-mark owner job mark l e =
 -- the discarded count of the judge is what the running discards
 pub together-discards : (launch : ℕ) (t : Table) (marks : List ℕ) (runs : List Run) → ((k : ℕ) → k < t .count → getD marks k 0 ≤ 1)
     → Together (jobsOf launch t) marks runs → discards (jobsOf launch t) (ownerOf runs) ≡ discardedCount t marks
-unfolding jobsOf jobAt jobOf discardedCount
+unfolding jobsOf jobAt jobOf countMarked
 together-discards launch t marks runs low g =
     discards-places (jobAt launch t) (ownerOf runs) (λ k. and (counts (jobAt launch t k)) (eqb (getD marks k 0) 0)) (t .count)
     (λ k l. discarded-mark (ownerOf runs) (jobAt launch t k) (getD marks k 0) (low k l) (together-work launch t marks runs g k l))
 
--- Where the judge refuses nothing, it says yes exactly when the runs follow one another in time, none is empty, and list and runs together are
--- a running.
-table-sound : (launch : ℕ) (t : Table) (marks : List ℕ) (runs : List Run) → judgeTable launch t marks runs .number ≡ 0
-    → judgeTable launch t marks runs .yes ≡ verdict launch t marks runs
-unfolding judgeTable judgeBy verdict
-table-sound launch t marks runs =
+-- the reply of a judge that refuses nothing is the verdict, with the counts that come with a yes
+pub table-says : (launch : ℕ) (t : Table) (marks : List ℕ) (runs : List Run) → judgeTable launch t marks runs .number ≡ 0
+    → judgeTable launch t marks runs ≡ judgeSays (verdict launch t marks runs) (keptCount t marks) (discardedCount t marks)
+unfolding judgeTable judgeByVerdict
+table-says launch t marks runs =
     cases (badLaunch launch)
     (λ d. rw d (λ z. absurd (omega arith)))
     (λ d.
@@ -286,18 +264,21 @@ table-sound launch t marks runs =
     (λ f. rw f (λ z. absurd (omega arith)))
     (λ f. rw f (cases (tooMany runs) (λ g. rw g (λ z. absurd (omega arith))) (λ g. rw g (λ z. refl))))))))
 
+-- a refusal of reading has a number
 refused-nonzero : (a : Answer) → isAccepted a ≡ false → numberOf a ≡ 0 → ⊥
 refused-nonzero a e z = eqb-false (numberOf a) 0 (refused-number a e) z
 
-pub judge-sound : (launch : ℕ) (file marks : List ℕ) (runs : List Run) → judged launch file marks runs .number ≡ 0
-    → (judged launch file marks runs .yes ≡ true) ↔ Acceptable launch file marks runs
-unfolding judged
+-- Where the judge refuses nothing, it says yes exactly when the runs follow one another in time, none is empty, and list and runs together are
+-- a running.
+pub judge-sound : (launch : ℕ) (file marks : List ℕ) (runs : List Run) → judgeReply launch file marks runs .number ≡ 0
+    → (judgeReply launch file marks runs .yes ≡ true) ↔ Acceptable launch file marks runs
+unfolding judgeReply judgeFile
 judge-sound launch file marks runs =
     cases (isAccepted (readAnswer file))
     (λ e.
     rw e
     (λ z.
-    let same = table-sound launch (tableIn file) marks runs z in
+    let same = ap (λ (j : Judged). j .yes) (table-says launch (tableIn file) marks runs z) in
     let law = judge-verdict launch (tableIn file) marks runs in (
       λ y. let f = law .0 (sym same ∙ y) in record { follow = f .1; nonempty = f .0; together = f .2 },
       λ f. same ∙ law .1 (f .nonempty, f .follow, f .together),

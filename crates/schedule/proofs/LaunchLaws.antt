@@ -13,8 +13,9 @@ use Rattle.table.specs.Reading.{tableIn}
 use Rattle.schedule.specs.declared.Run.{Run}
 use Rattle.schedule.specs.Jobs.{jobOf, jobAt}
 use Rattle.schedule.specs.Runs.{tooMany}
-use Rattle.schedule.specs.Judging.{verdictBy, verdict, judgeBy, judgeTable, judged}
-use Rattle.schedule.specs.Shifting.{laterJob, laterRun, laterRuns}
+use Rattle.schedule.specs.Judging.{verdictByJobs, verdict, judgeByVerdict, judgeTable, judgeFile, judgeReply}
+use Rattle.schedule.specs.Shifting.{laterRun, laterRuns}
+use Rattle.schedule.specs.LaterJobs.{laterJob}
 use Rattle.schedule.specs.Earlier.{earlierJobAt, earlierJudged}
 use Rattle.schedule.proofs.ShiftLaws.{nonempty-shift, order-shift, known-shift, windows-shift, totals-shift}
 
@@ -31,7 +32,7 @@ job-launch-0 t k = rw (release-launch-0 (t .p) (t .q) (taskAt t k .release), dea
 
 -- Runs later by the launch tick get the verdict that the runs get with launch 0.
 pub verdict-launch : (launch : ℕ) (t : Table) (marks : List ℕ) (runs : List Run) → verdict launch t marks (laterRuns launch runs) ≡ verdict 0 t marks runs
-unfolding verdict verdictBy
+unfolding verdict verdictByJobs
 verdict-launch launch t marks runs =
     rw (
       fun-ext (job-launch launch t),
@@ -44,12 +45,12 @@ verdict-launch launch t marks runs =
 
 -- So the judge's reply to them at an accepted launch tick is its reply to the runs with launch 0, refusals too.
 pub judge-launch : (launch : ℕ) (file marks : List ℕ) (runs : List Run) → badLaunch launch ≡ false
-    → judged launch file marks (laterRuns launch runs) ≡ judged 0 file marks runs
-unfolding judged judgeTable judgeBy verdict tooMany
+    → judgeReply launch file marks (laterRuns launch runs) ≡ judgeReply 0 file marks runs
+unfolding judgeReply judgeFile judgeTable judgeByVerdict tooMany
 judge-launch launch file marks runs low =
     rw (low, length-map runs (laterRun launch), verdict-launch launch (tableIn file) marks runs)
 
 -- With launch 0 every earlier answer of the judge holds.
-pub judge-launch-0 : (file marks : List ℕ) (runs : List Run) → judged 0 file marks runs ≡ earlierJudged file marks runs
-unfolding judged judgeTable earlierJudged
+pub judge-launch-0 : (file marks : List ℕ) (runs : List Run) → judgeReply 0 file marks runs ≡ earlierJudged file marks runs
+unfolding judgeReply judgeFile judgeTable verdict earlierJudged
 judge-launch-0 file marks runs = rw (fun-ext (job-launch-0 (tableIn file)))

@@ -21,9 +21,9 @@ use Rattle.schedule.specs.declared.Found.{Found}
 use Rattle.schedule.specs.declared.Found.the-variants as found
 use Rattle.schedule.specs.declared.Stretch.{Stretch}
 use Rattle.schedule.specs.Runs.{noRun, runHolds}
-use Rattle.schedule.specs.RunCheck.{runsAnswer, runsAccepted}
-use Rattle.schedule.specs.Queries.{firstRun, startsFrom, foundBy, runAtTick, runFromTick, HoldsTick, FirstFrom}
-use Rattle.schedule.specs.Queries.{touches, touching, stretchOf, SharesTick, TouchingPart}
+use Rattle.schedule.specs.RunCheck.{checkAnswer, runsAccepted}
+use Rattle.schedule.specs.Queries.{firstRun, startsFrom, afterCheck, foundFirst, runAtTick, runFromTick, HoldsTick, FirstFrom}
+use Rattle.schedule.specs.Queries.{touches, touching, stretchOf, SharesTick, TouchingStretch}
 use Rattle.schedule.proofs.RunLaws.{run-holds, in-holds}
 use Rattle.schedule.proofs.CheckLaws.{accepted-is, accepted-order, ends-before, all-indices}
 use Rattle.schedule.proofs.SearchLaws.{first-some, first-none}
@@ -59,25 +59,27 @@ none-first test (run ∷ runs) e =
     (λ t. (t, none-first test runs (rw t at e)))
 
 -- what the answer on an accepted list tells of the run found, or of none
-found-one : (o : Option Run) (run : Run) → foundBy checked.Accepted o ≡ found.One run → o ≡ some run
+found-one : (o : Option Run) (run : Run) → afterCheck checked.Accepted o ≡ found.One run → o ≡ some run
 found-one none run e = cc
 found-one (some other) run e = cc
 
-found-none : (o : Option Run) → foundBy checked.Accepted o ≡ found.None → o ≡ none
+found-none : (o : Option Run) → afterCheck checked.Accepted o ≡ found.None → o ≡ none
 found-none none e = refl
 found-none (some other) e = cc
 
 -- So on an accepted list a run is answered exactly where it stands at an index, passes, and none before it does;
-module _ (test : Run → Bool) (runs : List Run) (accepted : runsAnswer runs ≡ checked.Accepted) where
-  answered-run : (run : Run) → (foundBy (runsAnswer runs) (firstRun test runs) ≡ found.One run)
+module _ (test : Run → Bool) (runs : List Run) (accepted : checkAnswer runs ≡ checked.Accepted) where
+  answered-run : (run : Run) → (foundFirst test runs ≡ found.One run)
       ↔ ((k : ℕ) × (k < length runs) × (getD runs k noRun ≡ run) × (test run ≡ true) × ((j : ℕ) → j < k → test (getD runs j noRun) ≡ false))
+  unfolding foundFirst
   answered-run run = (
     λ e. found-first test runs run (found-one (firstRun test runs) run (rw accepted at e)),
     λ f. rw (accepted, first-some test runs (f .0) (f .1) (rw (f .2) (f .3)) (f .4)) (ap found.One (f .2)),
   )
 
   -- and none exactly where none passes
-  answered-none : (foundBy (runsAnswer runs) (firstRun test runs) ≡ found.None) ↔ All (λ run. test run ≡ false) runs
+  answered-none : (foundFirst test runs ≡ found.None) ↔ All (λ run. test run ≡ false) runs
+  unfolding foundFirst
   answered-none = (
     λ e. none-first test runs (found-none (firstRun test runs) (rw accepted at e)),
     λ a. rw (accepted, first-none test runs (λ k l. all-at (λ run. test run ≡ false) noRun runs k l a)),
@@ -96,7 +98,7 @@ member-at (other ∷ runs) run (inr m) = let r = member-at runs run m in let l =
 -- The run that holds a tick.
 
 -- of an accepted list, two runs that hold a tick are one
-at-most-one : (runs : List Run) → runsAnswer runs ≡ checked.Accepted → (tick i k : ℕ) → i < length runs → k < length runs
+at-most-one : (runs : List Run) → checkAnswer runs ≡ checked.Accepted → (tick i k : ℕ) → i < length runs → k < length runs
     → runHolds (getD runs i noRun) tick ≡ true → runHolds (getD runs k noRun) tick ≡ true → i ≡ k
 at-most-one runs accepted tick i k l m e f =
     let o = accepted-order runs accepted in
@@ -109,7 +111,6 @@ at-most-one runs accepted tick i k l m e f =
 
 -- so the first that holds it is the only one: what the answer means
 pub holds-tick : (runs : List Run) (tick : ℕ) (answer : Found) → answer ≡ runAtTick runs tick → HoldsTick runs tick answer
-unfolding runAtTick
 holds-tick runs tick answer is accepted =
     let holds : Run → Bool = λ run. runHolds run tick in
     let single = at-most-one runs accepted tick in
@@ -139,7 +140,6 @@ holds-tick runs tick answer is accepted =
 
 -- The first run that starts at a tick or after it: what the answer means.
 pub first-from : (runs : List Run) (tick : ℕ) (answer : Found) → answer ≡ runFromTick runs tick → FirstFrom runs tick answer
-unfolding runFromTick
 first-from runs tick answer is accepted =
     let from = startsFrom tick in
     rw is
@@ -192,29 +192,29 @@ pub touching-none : (runs : List Run) (a b : ℕ) → b ≤ a → touching runs 
 unfolding touching
 touching-none runs a b h =
     rw (passing-none (touches a b) runs (all-indices (λ run. touches a b run ≡ false) runs (λ k l. touches-none a b (getD runs k noRun) h)))
-    (pick-same (runsAccepted (runsAnswer runs)) [])
+    (pick-same (runsAccepted (checkAnswer runs)) [])
 
 -- of an accepted list they stand at indices without a gap
-stands : (runs : List Run) (a b : ℕ) → runsAnswer runs ≡ checked.Accepted → (first : ℕ) × (count : ℕ) × Stretched (touches a b) runs first count
+stands : (runs : List Run) (a b : ℕ) → checkAnswer runs ≡ checked.Accepted → (first : ℕ) × (count : ℕ) × Stretched (touches a b) runs first count
 stands runs a b accepted =
     elim (decLt a b) [
       | yes h ↦ (_, _, interval-stretched runs a b accepted h)
       | no h ↦ (0, 0, empty-stretched runs a b (omega arith))
     ]
 
--- where they stand is the part of the list that they are
-touching-part : (runs : List Run) (a b first count : ℕ) → runsAnswer runs ≡ checked.Accepted → Stretched (touches a b) runs first count
+-- where they stand is the stretch of the list that they are
+touching-stretch : (runs : List Run) (a b first count : ℕ) → checkAnswer runs ≡ checked.Accepted → Stretched (touches a b) runs first count
     → touching runs a b ≡ take count (drop first runs)
 unfolding touching
-touching-part runs a b first count accepted s =
+touching-stretch runs a b first count accepted s =
     rw accepted
     (unbroken-runs (touches a b) runs (take count (drop first runs)) (stretched-unbroken (touches a b) runs first count s))
 
--- so they are one unbroken part of it: each of them shares a tick with the interval, and none of the others does
-pub touching-unbroken : (runs : List Run) (a b : ℕ) → TouchingPart a b runs (touching runs a b)
+-- so they are one unbroken stretch of it: each of them shares a tick with the interval, and none of the others does
+pub touching-unbroken : (runs : List Run) (a b : ℕ) → TouchingStretch a b runs (touching runs a b)
 touching-unbroken runs a b accepted =
     let s = stands runs a b accepted in
-    rw (touching-part runs a b (s .0) (s .1) accepted (s .2))
+    rw (touching-stretch runs a b (s .0) (s .1) accepted (s .2))
     (unbroken-map (Passes (touches a b)) (SharesTick a b) runs (take (s .1) (drop (s .0) runs)) (touches-exactly a b)
     (stretched-unbroken (touches a b) runs (s .0) (s .1) (s .2)))
 
@@ -224,20 +224,20 @@ stretch-cases : (runs : List Run) (a b : ℕ) (P : Stretch → Type 0) → (touc
     → P (record { first = first; runs = count }))
     → P (stretchOf runs a b)
 stretch-cases runs a b P f g =
-    cases (runsAccepted (runsAnswer runs))
+    cases (runsAccepted (checkAnswer runs))
     (λ e.
-    let accepted = accepted-is (runsAnswer runs) e in
+    let accepted = accepted-is (checkAnswer runs) e in
     let s = stands runs a b accepted in
-    let part = touching-part runs a b (s .0) (s .1) accepted (s .2) in
+    let stretch = touching-stretch runs a b (s .0) (s .1) accepted (s .2) in
     rw (stretch-is runs a b (s .0) (s .1) accepted (s .2))
     (pick-cases P (eqb (s .1) 0)
-    (λ z. f (part ∙ ap (λ n. take n (drop (s .0) runs)) (eqb-true (s .1) 0 z)))
-    (λ z. g (s .0) (s .1) part (s .2 .within))))
+    (λ z. f (stretch ∙ ap (λ n. take n (drop (s .0) runs)) (eqb-true (s .1) 0 z)))
+    (λ z. g (s .0) (s .1) stretch (s .2 .within))))
     (λ e. rw (stretch-refused runs a b e) (f (touching-refused runs a b e)))
 
--- so of any list it is the part of the runs that share a tick with the interval, and lies within the list
-pub stretch-part : (runs : List Run) (a b : ℕ) → take (stretchOf runs a b .runs) (drop (stretchOf runs a b .first) runs) ≡ touching runs a b
-stretch-part runs a b =
+-- so of any list it is the stretch of the runs that share a tick with the interval, and lies within the list
+pub stretch-touching : (runs : List Run) (a b : ℕ) → take (stretchOf runs a b .runs) (drop (stretchOf runs a b .first) runs) ≡ touching runs a b
+stretch-touching runs a b =
     stretch-cases runs a b (λ s. take (s .runs) (drop (s .first) runs) ≡ touching runs a b) (λ e. sym e) (λ first count e l. sym e)
 
 pub stretch-within : (runs : List Run) (a b : ℕ) → stretchOf runs a b .first + stretchOf runs a b .runs ≤ length runs

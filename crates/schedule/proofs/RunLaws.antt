@@ -9,11 +9,11 @@ use native.Mathlib.Omega.{arith}
 use lib.Dec.{leb, ltb, eqb}
 use borrow.Author.Tests.{leb-true, leb-false, ltb-true, ltb-false, le-leb, lt-leb, lt-ltb, le-ltb, eqb-true}
 use Rattle.base.specs.Tests.{pick, and}
-use Rattle.base.proofs.TestLaws.{cases, both-absurd, and-left, and-right}
-use Rattle.schedule.specs.Ticks.{isTask, isOwned, one, countBelow, ticksOf}
+use Rattle.base.proofs.TestLaws.{cases, both-absurd, and-true, and-left, and-right}
+use Rattle.schedule.specs.Ticks.{isTask, isOwned, oneIf, countBelow, ticksOf, sumBelow}
 use Rattle.base.specs.Members.{All, Any}
 use Rattle.schedule.specs.declared.Run.{Run}
-use Rattle.schedule.specs.Runs.{runHolds, ownerOf}
+use Rattle.schedule.specs.Runs.{everyRun, sumRuns, runHolds, ownerOf}
 use Rattle.schedule.specs.Judging.{noneEmpty, followFrom, totalOf}
 use Rattle.schedule.proofs.TickLaws.{count-none, count-split}
 
@@ -39,7 +39,7 @@ after-holds run tick h =
 
 -- how many of the ticks below n a run holds
 pub run-count : (run : Run) (n : ℕ) → countBelow (runHolds run) n ≡ min (run .end) n - run .start
-unfolding countBelow
+unfolding sumBelow
 run-count run zero = omega arith
 run-count run (suc n) =
     let h = run-count run n in
@@ -50,14 +50,24 @@ run-count run (suc n) =
     (λ f. rw (e, f) (omega (arith, ltb-false n (run .end) f))))
     (λ e. rw e (omega (arith, leb-false (run .start) n e)))
 
+-- every run of a list passes a test, said of each
+pub every-each : (test : Run → Bool) (P : Run → Type 0) → ((run : Run) → (test run ≡ true) ↔ P run) → (runs : List Run)
+    → (everyRun test runs ≡ true) ↔ All P runs
+unfolding everyRun
+every-each test P h [] = (λ e. tt, λ a. refl)
+every-each test P h (run ∷ runs) = (
+  λ e. (h run .0 (and-left (test run) (everyRun test runs) e), every-each test P h runs .0 (and-right (test run) (everyRun test runs) e)),
+  λ a. and-true (test run) (everyRun test runs) (h run .1 (a .0)) (every-each test P h runs .1 (a .1)),
+)
+
 -- where no run is empty, the first is not
 pub first-nonempty : (run : Run) (runs : List Run) → noneEmpty (run ∷ runs) ≡ true → run .start < run .end
-unfolding noneEmpty
+unfolding everyRun
 first-nonempty run runs e = ltb-true (run .start) (run .end) (and-left (ltb (run .start) (run .end)) (noneEmpty runs) e)
 
 -- and the rest are not
 pub rest-nonempty : (run : Run) (runs : List Run) → noneEmpty (run ∷ runs) ≡ true → noneEmpty runs ≡ true
-unfolding noneEmpty
+unfolding everyRun
 rest-nonempty run runs e = and-right (ltb (run .start) (run .end)) (noneEmpty runs) e
 
 -- in order, the first run starts where it may
@@ -132,7 +142,7 @@ owned-exactly runs tick = (owned-held runs, held-owned runs)
 module _ (test : Option ℕ → Bool) (fails : test none ≡ false) where
   -- in order, they are those of the first run, where its task passes, and those of the rest
   own-split : (from : ℕ) (run : Run) (runs : List Run) → noneEmpty (run ∷ runs) ≡ true → followFrom from (run ∷ runs) ≡ true → (tick : ℕ)
-      → one (test (ownerOf (run ∷ runs) tick)) ≡ one (and (test (some (run .task))) (runHolds run tick)) + one (test (ownerOf runs tick))
+      → oneIf (test (ownerOf (run ∷ runs) tick)) ≡ oneIf (and (test (some (run .task))) (runHolds run tick)) + oneIf (test (ownerOf runs tick))
   unfolding ownerOf
   own-split from run runs ne fo tick =
       cases (runHolds run tick)
@@ -168,7 +178,7 @@ module _ (test : Option ℕ → Bool) (fails : test none ≡ false) where
 ends-count : (from : ℕ) (runs : List Run) → noneEmpty runs ≡ true → followFrom from runs ≡ true
     → (i a b : ℕ) → All (λ run. run .task ≡ i → (a ≤ run .start) × (run .end ≤ b)) runs
     → (countBelow (λ tick. isTask i (ownerOf runs tick)) a ≡ 0) × (countBelow (λ tick. isTask i (ownerOf runs tick)) b ≡ totalOf runs i)
-unfolding totalOf
+unfolding sumRuns
 ends-count from [] ne fo i a b h = (free-count (isTask i) refl a, free-count (isTask i) refl b)
 ends-count from (run ∷ runs) ne fo i a b h =
     let p = own-count (isTask i) refl from run runs ne fo a in

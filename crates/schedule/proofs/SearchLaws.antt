@@ -17,8 +17,8 @@ use Rattle.schedule.specs.declared.RunsAnswer.{RunsAnswer}
 use Rattle.schedule.specs.declared.RunsAnswer.the-variants as checked
 use Rattle.schedule.specs.declared.Found.the-variants as found
 use Rattle.schedule.specs.Runs.{noRun, runHolds}
-use Rattle.schedule.specs.RunCheck.{runsAnswer, runsAccepted}
-use Rattle.schedule.specs.Queries.{firstRun, foundBy, runAtTick, runFromTick, startsFrom}
+use Rattle.schedule.specs.RunCheck.{checkAnswer, runsAccepted}
+use Rattle.schedule.specs.Queries.{firstRun, afterCheck, foundFirst, runAtTick, runFromTick, startsFrom}
 use Rattle.schedule.proofs.RunLaws.{in-holds, before-holds, after-holds}
 use Rattle.schedule.proofs.CheckLaws.{accepted-order, starts-rise}
 
@@ -38,19 +38,15 @@ unfolding firstRun
 first-none test [] h = refl
 first-none test (run ∷ runs) h = rw (h 0 (omega arith)) (first-none test runs (λ k l. h (suc k) (omega arith)))
 
--- where the check refuses the list, the two queries for one run answer with the refusal alone
-refused-found : (answer : RunsAnswer) (run : Option Run) → runsAccepted answer ≡ false → foundBy answer run ≡ foundBy answer none
-refused-found checked.Accepted run e = both-absurd true refl e
-refused-found checked.TooMany run e = refl
-refused-found (checked.OutOfOrder index) run e = refl
-
-pub at-refused : (runs : List Run) (tick : ℕ) → runsAccepted (runsAnswer runs) ≡ false → runAtTick runs tick ≡ foundBy (runsAnswer runs) none
-unfolding runAtTick
-at-refused runs tick e = refused-found (runsAnswer runs) (firstRun (λ run. runHolds run tick) runs) e
-
-pub from-refused : (runs : List Run) (tick : ℕ) → runsAccepted (runsAnswer runs) ≡ false → runFromTick runs tick ≡ foundBy (runsAnswer runs) none
-unfolding runFromTick
-from-refused runs tick e = refused-found (runsAnswer runs) (firstRun (startsFrom tick) runs) e
+-- where the check refuses the list, the query answers with the refusal alone
+pub first-refused : (test : Run → Bool) (runs : List Run) → runsAccepted (checkAnswer runs) ≡ false → foundFirst test runs ≡ afterCheck (checkAnswer runs) none
+unfolding foundFirst
+first-refused test runs = refused (checkAnswer runs) (firstRun test runs)
+  where
+    refused : (answer : RunsAnswer) (run : Option Run) → runsAccepted answer ≡ false → afterCheck answer run ≡ afterCheck answer none
+    refused checked.Accepted run e = both-absurd true refl e
+    refused checked.TooMany run e = refl
+    refused (checked.OutOfOrder index) run e = refl
 
 -- the run at an index ends after a tick; it starts at a tick or after it
 abbrev pub endsAfter : List Run → ℕ → ℕ → Bool
@@ -81,11 +77,11 @@ module _ (runs : List Run) (tick : ℕ) where
   starting-from l = leb-true tick (getD runs (firstStarting runs tick) noRun .start) (passes (startsFromAt runs tick) (length runs) l)
 
   -- The answers to the two queries for one run, on an accepted list.
-  module _ (accepted : runsAnswer runs ≡ checked.Accepted) where
+  module _ (accepted : checkAnswer runs ≡ checked.Accepted) where
     -- the run that holds the tick is the first that ends after it, where it has begun,
     pub at-found : firstEnding runs tick < length runs → getD runs (firstEnding runs tick) noRun .start ≤ tick
         → runAtTick runs tick ≡ found.One (getD runs (firstEnding runs tick) noRun)
-    unfolding runAtTick
+    unfolding foundFirst
     at-found l h =
         let i = firstEnding runs tick in
         rw (
@@ -96,13 +92,13 @@ module _ (runs : List Run) (tick : ℕ) where
 
     -- none holds it where every run has ended,
     pub at-ended : length runs ≤ firstEnding runs tick → runAtTick runs tick ≡ found.None
-    unfolding runAtTick
+    unfolding foundFirst
     at-ended h =
         rw (accepted, first-none (λ run. runHolds run tick) runs (λ k l. after-holds (getD runs k noRun) tick (ended-before k (omega arith))))
 
     -- or where the first that ends after the tick has not begun
     pub at-not-begun : tick < getD runs (firstEnding runs tick) noRun .start → runAtTick runs tick ≡ found.None
-    unfolding runAtTick
+    unfolding foundFirst
     at-not-begun h =
         rw (
           accepted,
@@ -117,7 +113,7 @@ module _ (runs : List Run) (tick : ℕ) where
 
     -- the first run that starts at the tick or after it, where there is one
     pub from-found : firstStarting runs tick < length runs → runFromTick runs tick ≡ found.One (getD runs (firstStarting runs tick) noRun)
-    unfolding runFromTick
+    unfolding foundFirst
     from-found l =
         let i = firstStarting runs tick in
         rw (
@@ -128,6 +124,6 @@ module _ (runs : List Run) (tick : ℕ) where
 
     -- and none where every run starts before the tick
     pub from-started : length runs ≤ firstStarting runs tick → runFromTick runs tick ≡ found.None
-    unfolding runFromTick
+    unfolding foundFirst
     from-started h =
         rw (accepted, first-none (startsFrom tick) runs (λ k l. lt-leb tick (getD runs k noRun .start) (started-before k (omega arith))))

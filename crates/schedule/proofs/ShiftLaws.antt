@@ -3,7 +3,7 @@ use Prim.Native.Nat.{ℕ, zero, suc, _+_, _-_, _<_}
 use mathlib.Core.Path.{_≡_, refl, sym, ap, _∙_}
 use mathlib.Core.Logic.{inl, inr, _↔_}
 use mathlib.Core.List.{List, [], _∷_}
-use mathlib.Core.Bool.{Bool, not}
+use mathlib.Core.Bool.{Bool}
 use mathlib.Core.Option.{Option, none, some}
 use native.Mathlib.Omega.{arith}
 use native.Mathlib.Nat.{zero-add}
@@ -11,17 +11,19 @@ use native.Mathlib.Decide.{decLe}
 use lib.Dec.{leb, ltb, eqb}
 use lib.ListN.{getD}
 use borrow.Author.Tests.{leb-true, le-leb, lt-leb, ltb-true, lt-ltb, eqb-true, eq-eqb}
+use Rattle.base.specs.Tests.{pick}
 use Rattle.base.specs.Members.{All, Any}
 use Rattle.base.proofs.TestLaws.{same-test}
-use Rattle.base.proofs.LowestLaws.{some-same}
+use Rattle.base.proofs.LowestLaws.{every-same}
 use Rattle.schedule.specs.declared.Job.{Job}
 use Rattle.schedule.specs.declared.Run.{Run}
 use Rattle.schedule.specs.Jobs.{windowTicks, workOf}
-use Rattle.schedule.specs.Ticks.{Owner, isTask, countBelow, countIn}
-use Rattle.schedule.specs.Runnings.{WindowHolds, got, Gets, Running, discards}
-use Rattle.schedule.specs.Runs.{ownerOf, Together}
-use Rattle.schedule.specs.Judging.{noneEmpty, followFrom, inOrder, knownTasks, inWindows, totalOf, exactTotals}
-use Rattle.schedule.specs.Shifting.{laterJob, laterJobs, laterRuns, LaterOwner}
+use Rattle.schedule.specs.Ticks.{Owner, isTask, countBelow, countBetween, sumBelow}
+use Rattle.schedule.specs.Runnings.{WindowHolds, got, Gets, Running, discards, Whole}
+use Rattle.schedule.specs.Runs.{everyRun, sumRuns, ownerOf, Together}
+use Rattle.schedule.specs.Judging.{noneEmpty, followFrom, eachFollows, knownTasks, insideWindow, inWindows, totalOf, exactTotals}
+use Rattle.schedule.specs.Shifting.{laterRun, laterRuns}
+use Rattle.schedule.specs.LaterJobs.{laterJob, laterJobs, LaterOwner}
 
 module _ (c : ℕ) where
   -- a number is at most another where both lie later by c
@@ -52,7 +54,7 @@ module _ (c : ℕ) where
   -- below n + c a test that lies later passes as often as the test below n, and as often as it does below c
   below-shift : (test later : ℕ → Bool) → ((tick : ℕ) → later (tick + c) ≡ test tick) → (n : ℕ)
       → countBelow later (n + c) ≡ countBelow test n + countBelow later c
-  unfolding countBelow
+  unfolding sumBelow
   below-shift test later same zero = rw (zero-add c) (omega arith)
   below-shift test later same (suc n) =
       let e : suc n + c ≡ suc (n + c) = omega arith in
@@ -60,7 +62,7 @@ module _ (c : ℕ) where
 
   -- As many ticks from a + c to b + c pass a test that lies later as pass the test from a to b.
   pub count-shift : (test later : ℕ → Bool) → ((tick : ℕ) → later (tick + c) ≡ test tick) → (a b : ℕ)
-      → countIn later (a + c) (b + c) ≡ countIn test a b
+      → countBetween later (a + c) (b + c) ≡ countBetween test a b
   count-shift test later same a b = omega (arith, below-shift test later same a, below-shift test later same b)
 
   -- Runnings. `later` is `owner`, later by c ticks.
@@ -78,12 +80,12 @@ module _ (c : ℕ) where
     discards-shift (job ∷ jobs) = rw (got-shift job, discards-shift jobs)
 
     -- the later jobs get one of their two amounts each where the jobs do
-    gets-later : (jobs : List Job) → All (Gets owner) jobs → All (Gets later) (laterJobs c jobs)
+    gets-later : (jobs : List Job) → All (Gets Whole owner) jobs → All (Gets Whole later) (laterJobs c jobs)
     gets-later [] g = tt
     gets-later (job ∷ jobs) g = (rw (got-shift job) (g .0), gets-later jobs (g .1))
 
     -- and the other way
-    gets-back : (jobs : List Job) → All (Gets later) (laterJobs c jobs) → All (Gets owner) jobs
+    gets-back : (jobs : List Job) → All (Gets Whole later) (laterJobs c jobs) → All (Gets Whole owner) jobs
     gets-back [] g = tt
     gets-back (job ∷ jobs) g = (rw (got-shift job) at (g .0), gets-back jobs (g .1))
 
@@ -157,11 +159,22 @@ module _ (c : ℕ) where
       works [] g = tt
       works (job ∷ jobs) g = (got-shift (ownerOf runs) (ownerOf (laterRuns c runs)) (owner-shift runs) job ∙ g .0, works jobs (g .1))
 
-  -- None of the runs is empty where none was,
+  -- Runs that lie later pass a test where the runs pass another, and have the sum of a number that is another of the runs.
+  every-shift : (test later : Run → Bool) → ((run : Run) → later (laterRun c run) ≡ test run) → (runs : List Run)
+      → everyRun later (laterRuns c runs) ≡ everyRun test runs
+  unfolding everyRun
+  every-shift test later same [] = refl
+  every-shift test later same (run ∷ runs) = rw (same run, every-shift test later same runs)
+
+  sum-shift : (number later : Run → ℕ) → ((run : Run) → later (laterRun c run) ≡ number run) → (runs : List Run)
+      → sumRuns later (laterRuns c runs) ≡ sumRuns number runs
+  unfolding sumRuns
+  sum-shift number later same [] = refl
+  sum-shift number later same (run ∷ runs) = rw (same run, sum-shift number later same runs)
+
+  -- So none of them is empty where none was,
   pub nonempty-shift : (runs : List Run) → noneEmpty (laterRuns c runs) ≡ noneEmpty runs
-  unfolding noneEmpty
-  nonempty-shift [] = refl
-  nonempty-shift (run ∷ runs) = rw (ltb-later (run .start) (run .end), nonempty-shift runs)
+  nonempty-shift = every-shift (λ run. ltb (run .start) (run .end)) (λ run. ltb (run .start) (run .end)) (λ run. ltb-later (run .start) (run .end))
 
   -- they follow one another from a tick c ticks later where they did from the tick,
   pub follow-shift : (from : ℕ) (runs : List Run) → followFrom (from + c) (laterRuns c runs) ≡ followFrom from runs
@@ -170,35 +183,29 @@ module _ (c : ℕ) where
   follow-shift from (run ∷ runs) = rw (leb-later from (run .start), follow-shift (run .end) runs)
 
   -- so they are in order where they were,
-  pub order-shift : (runs : List Run) → inOrder (laterRuns c runs) ≡ inOrder runs
-  unfolding inOrder followFrom
+  pub order-shift : (runs : List Run) → eachFollows (laterRuns c runs) ≡ eachFollows runs
+  unfolding eachFollows followFrom
   order-shift [] = refl
   order-shift (run ∷ runs) = rw (le-leb 0 (run .start + c) (omega arith), le-leb 0 (run .start) (omega arith)) (follow-shift (run .end) runs)
 
   -- their tasks are known where they were,
   pub known-shift : (n : ℕ) (runs : List Run) → knownTasks n (laterRuns c runs) ≡ knownTasks n runs
-  unfolding knownTasks
-  known-shift n [] = refl
-  known-shift n (run ∷ runs) = rw (known-shift n runs)
+  known-shift n = every-shift (λ run. ltb (run .task) n) (λ run. ltb (run .task) n) (λ run. refl)
 
   -- and they are inside the later windows where they were inside the windows.
   pub windows-shift : (job : ℕ → Job) (runs : List Run) → inWindows (λ k. laterJob c (job k)) (laterRuns c runs) ≡ inWindows job runs
-  unfolding inWindows
-  windows-shift job [] = refl
-  windows-shift job (run ∷ runs) =
-      let own = job (run .task) in
-      rw (leb-later (own .release) (run .start), leb-later (run .end) (own .deadline), windows-shift job runs)
+  windows-shift job =
+      every-shift (λ run. insideWindow (job (run .task)) run) (λ run. insideWindow (laterJob c (job (run .task))) run) (λ run.
+      rw (leb-later (job (run .task) .release) (run .start), leb-later (run .end) (job (run .task) .deadline)))
 
   -- the runs of a task total as many ticks
   total-shift : (runs : List Run) (i : ℕ) → totalOf (laterRuns c runs) i ≡ totalOf runs i
-  unfolding totalOf
-  total-shift [] i = refl
-  total-shift (run ∷ runs) i =
-      let e : (run .end + c) - (run .start + c) ≡ run .end - run .start = omega arith in
-      rw (e, total-shift runs i)
+  total-shift runs i =
+      sum-shift (λ run. pick (eqb (run .task) i) (run .end - run .start) 0) (λ run. pick (eqb (run .task) i) (run .end - run .start) 0) (λ run.
+      let e : (run .end + c) - (run .start + c) ≡ run .end - run .start = omega arith in rw e)
+      runs
 
   -- Each task's runs total its work exactly where they did.
   pub totals-shift : (job : ℕ → Job) (marks : List ℕ) (n : ℕ) (runs : List Run)
       → exactTotals (λ k. laterJob c (job k)) marks n (laterRuns c runs) ≡ exactTotals job marks n runs
-  unfolding exactTotals
-  totals-shift job marks n runs = ap not (some-same _ _ n (λ k h. rw (total-shift runs k)))
+  totals-shift job marks n runs = every-same _ _ n (λ k l. rw (total-shift runs k))

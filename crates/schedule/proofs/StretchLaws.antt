@@ -19,7 +19,7 @@ use Rattle.base.proofs.MemberLaws.{all-map}
 use Rattle.schedule.specs.declared.Run.{Run}
 use Rattle.schedule.specs.declared.RunsAnswer.the-variants as checked
 use Rattle.schedule.specs.Runs.{noRun}
-use Rattle.schedule.specs.RunCheck.{runsAnswer, runsAccepted}
+use Rattle.schedule.specs.RunCheck.{checkAnswer, runsAccepted}
 use Rattle.schedule.specs.BusyCount.{shared}
 use Rattle.schedule.specs.Queries.{touches, runsThat, touching, stretchOf, Unbroken}
 use Rattle.schedule.proofs.CheckLaws.{accepted-order, starts-rise, ends-rise, all-indices}
@@ -67,30 +67,30 @@ passing-all test (run ∷ runs) h = rw (h .0, passing-all test runs (h .1))
 abbrev pub Passes : (Run → Bool) → Run → Type 0
 Passes test run = test run ≡ true
 
--- an unbroken part is the runs that pass
-pub unbroken-runs : (test : Run → Bool) (runs part : List Run) → Unbroken (Passes test) runs part → runsThat test runs ≡ part
-unbroken-runs test runs part u =
+-- an unbroken stretch is the runs that pass
+pub unbroken-runs : (test : Run → Bool) (runs stretch : List Run) → Unbroken (Passes test) runs stretch → runsThat test runs ≡ stretch
+unbroken-runs test runs stretch u =
     ap (runsThat test) (u .whole)
-    ∙ (passing-append test (u .before) (part ++ u .behind)
+    ∙ (passing-append test (u .before) (stretch ++ u .behind)
     ∙ rw (
       passing-none test (u .before) (failing (u .before) (u .left-out .0)),
-      passing-append test part (u .behind),
-      passing-all test part (u .inside),
+      passing-append test stretch (u .behind),
+      passing-all test stretch (u .inside),
       passing-none test (u .behind) (failing (u .behind) (u .left-out .1)),
-    ) (append-nil part))
+    ) (append-nil stretch))
   where
     failing : (others : List Run) → All (λ run. Passes test run → ⊥) others → All (λ run. test run ≡ false) others
     failing others =
         all-map (λ run. Passes test run → ⊥) (λ run. test run ≡ false) others (λ run h. cases (test run) (λ e. absurd (h e)) (λ e. e))
 
--- what is said of the runs of an unbroken part may be said in other words
-pub unbroken-map : (P Q : Run → Type 0) (runs part : List Run) → ((run : Run) → P run ↔ Q run) → Unbroken P runs part → Unbroken Q runs part
-unbroken-map P Q runs part same u =
+-- what is said of the runs of an unbroken stretch may be said in other words
+pub unbroken-map : (P Q : Run → Type 0) (runs stretch : List Run) → ((run : Run) → P run ↔ Q run) → Unbroken P runs stretch → Unbroken Q runs stretch
+unbroken-map P Q runs stretch same u =
     record {
       before = u .before;
       behind = u .behind;
       whole = u .whole;
-      inside = all-map P Q part (λ run. same run .0) (u .inside);
+      inside = all-map P Q stretch (λ run. same run .0) (u .inside);
       left-out = (rest (u .before) (u .left-out .0), rest (u .behind) (u .left-out .1));
     }
   where
@@ -105,16 +105,16 @@ pub record Stretched (test : Run → Bool) (runs : List Run) (first count : ℕ)
   pub behind : (k : ℕ) → first + count ≤ k → k < length runs → test (getD runs k noRun) ≡ false
 
 module _ (test : Run → Bool) (runs : List Run) (first count : ℕ) (s : Stretched test runs first count) where
-  -- so they are one unbroken part of the list
+  -- so they are one unbroken stretch of the list
   pub stretched-unbroken : Unbroken (Passes test) runs (take count (drop first runs))
   stretched-unbroken =
-      let part = take count (drop first runs) in
-      let rest : part ++ drop (first + count) runs ≡ drop first runs = rw (← drop-drop count first runs) (take-append-drop count (drop first runs)) in
+      let stretch = take count (drop first runs) in
+      let rest : stretch ++ drop (first + count) runs ≡ drop first runs = rw (← drop-drop count first runs) (take-append-drop count (drop first runs)) in
       record {
         before = take first runs;
         behind = drop (first + count) runs;
         whole = sym (rw rest (take-append-drop first runs));
-        inside = all-indices (Passes test) part (λ k l.
+        inside = all-indices (Passes test) stretch (λ k l.
             let m : k < count = omega (arith, length-take count (drop first runs)) in
             rw (getD-take count (drop first runs) k noRun m, getD-drop first runs k noRun) (s .inside (first + k) (omega arith) (omega arith)));
         left-out = (
@@ -148,7 +148,7 @@ module _ (test : Run → Bool) (runs : List Run) (first count : ℕ) (s : Stretc
 -- The runs of an accepted list that share a tick with an interval.
 
 -- where the interval is not empty, they are those from the first that ends after its start up to the first that starts at its end or after it
-pub interval-stretched : (runs : List Run) (a b : ℕ) → runsAnswer runs ≡ checked.Accepted → a < b
+pub interval-stretched : (runs : List Run) (a b : ℕ) → checkAnswer runs ≡ checked.Accepted → a < b
     → Stretched (touches a b) runs (firstEnding runs a) (firstStarting runs b - firstEnding runs a)
 interval-stretched runs a b accepted h =
     let o = accepted-order runs accepted in
@@ -186,7 +186,7 @@ empty-stretched runs a b h =
     }
 
 -- the stretch of a query, from where the runs stand
-pub stretch-is : (runs : List Run) (a b first count : ℕ) → runsAnswer runs ≡ checked.Accepted → Stretched (touches a b) runs first count
+pub stretch-is : (runs : List Run) (a b first count : ℕ) → checkAnswer runs ≡ checked.Accepted → Stretched (touches a b) runs first count
     → stretchOf runs a b ≡ pick (eqb count 0) (record { first = 0; runs = 0 }) (record { first = first; runs = count })
 unfolding stretchOf touching
 stretch-is runs a b first count accepted s =
@@ -196,10 +196,10 @@ stretch-is runs a b first count accepted s =
     (λ e. rw (e, stretched-lowest (touches a b) runs first count s (omega (arith, eqb-false count 0 e)))))
 
 -- where the list is refused, there are none, and the stretch is empty
-pub touching-refused : (runs : List Run) (a b : ℕ) → runsAccepted (runsAnswer runs) ≡ false → touching runs a b ≡ []
+pub touching-refused : (runs : List Run) (a b : ℕ) → runsAccepted (checkAnswer runs) ≡ false → touching runs a b ≡ []
 unfolding touching
 touching-refused runs a b e = rw e
 
-pub stretch-refused : (runs : List Run) (a b : ℕ) → runsAccepted (runsAnswer runs) ≡ false → stretchOf runs a b ≡ record { first = 0; runs = 0 }
+pub stretch-refused : (runs : List Run) (a b : ℕ) → runsAccepted (checkAnswer runs) ≡ false → stretchOf runs a b ≡ record { first = 0; runs = 0 }
 unfolding stretchOf
 stretch-refused runs a b e = rw (touching-refused runs a b e)

@@ -11,8 +11,9 @@ use native.Mathlib.Decide.{le-ind, decLe}
 use lib.Dec.{eqb}
 use borrow.Author.Tests.{eqb-true, ne-eqb}
 use Rattle.base.proofs.TestLaws.{cases}
-use Rattle.schedule.specs.Ticks.{Owner, isTask, one, countBelow, countIn, ticksOf}
-use Rattle.base.specs.Members.{All, Distinct}
+use Rattle.schedule.specs.Ticks.{Owner, isTask, oneIf, countBelow, countBetween, ticksOf, sumBelow}
+use Rattle.base.specs.Members.{All}
+use Rattle.base.specs.Arrays.{Distinct}
 
 -- the ticks that some tasks have between a and b, summed
 unfoldable pub shares : Owner → List ℕ → ℕ → ℕ → ℕ
@@ -21,45 +22,45 @@ shares owner (i ∷ is) a b = ticksOf owner i a b + shares owner is a b
 
 -- a count grows with its end
 pub count-grows : (test : ℕ → Bool) (a b : ℕ) → a ≤ b → countBelow test a ≤ countBelow test b
-unfolding countBelow
+unfolding sumBelow
 count-grows test a b h = le-ind (λ n. countBelow test a ≤ countBelow test n) (omega arith) (λ m k g. omega arith) b h
 
 -- a test counts 1 at most
-pub one-most : (test : Bool) → one test ≤ 1
+pub one-most : (test : Bool) → oneIf test ≤ 1
 one-most true = omega arith
 one-most false = omega arith
 
 -- so no more ticks pass than the interval has, and of an empty one none
-pub count-fits : (test : ℕ → Bool) (a b : ℕ) → countIn test a b ≤ b - a
-unfolding countBelow
+pub count-fits : (test : ℕ → Bool) (a b : ℕ) → countBetween test a b ≤ b - a
+unfolding sumBelow
 count-fits test a b =
     elim (decLe a b) [
-      | yes h ↦ le-ind (λ n. countIn test a n ≤ n - a) (omega arith) (λ m k g. omega (arith, one-most (test m), k, g)) b h
+      | yes h ↦ le-ind (λ n. countBetween test a n ≤ n - a) (omega arith) (λ m k g. omega (arith, one-most (test m), k, g)) b h
       | no h ↦ omega (arith, count-grows test b a (omega arith))
     ]
 
 -- tests that agree below n have equal counts
 pub count-same : (p q : ℕ → Bool) (n : ℕ) → ((t : ℕ) → t < n → p t ≡ q t) → countBelow p n ≡ countBelow q n
-unfolding countBelow
+unfolding sumBelow
 count-same p q zero e = refl
 count-same p q (suc n) e = rw (e n (omega arith), count-same p q n (λ t l. e t (omega arith)))
 
 -- where nothing below n passes, the count is 0
 pub count-none : (test : ℕ → Bool) (n : ℕ) → ((t : ℕ) → t < n → test t ≡ false) → countBelow test n ≡ 0
-unfolding countBelow
+unfolding sumBelow
 count-none test zero e = refl
 count-none test (suc n) e = rw (e n (omega arith), count-none test n (λ t l. e t (omega arith)))
 
 -- a test that is the sum of two has the sum of their counts
-pub count-split : (p q r : ℕ → Bool) → ((t : ℕ) → one (p t) ≡ one (q t) + one (r t)) → (n : ℕ) → countBelow p n ≡ countBelow q n + countBelow r n
-unfolding countBelow
+pub count-split : (p q r : ℕ → Bool) → ((t : ℕ) → oneIf (p t) ≡ oneIf (q t) + oneIf (r t)) → (n : ℕ) → countBelow p n ≡ countBelow q n + countBelow r n
+unfolding sumBelow
 count-split p q r e zero = refl
 count-split p q r e (suc n) = omega (arith, e n, count-split p q r e n)
 
 -- how many of some tasks have one tick
 among : List ℕ → Option ℕ → ℕ
 among [] o = 0
-among (i ∷ is) o = one (isTask i o) + among is o
+among (i ∷ is) o = oneIf (isTask i o) + among is o
 
 among-none : (is : List ℕ) → among is none ≡ 0
 unfolding among
@@ -82,7 +83,7 @@ among-le (i ∷ is) d (some k) =
     (λ e. rw e (omega (arith, among-le is (d .1) (some k))))
 
 shares-step : (owner : Owner) (is : List ℕ) (a b : ℕ) → shares owner is a (suc b) ≤ shares owner is a b + among is (owner b)
-unfolding shares among countBelow
+unfolding shares among sumBelow
 shares-step owner [] a b = omega arith
 shares-step owner (i ∷ is) a b = omega (arith, shares-step owner is a b)
 
@@ -107,9 +108,9 @@ shares-fit owner is d a b =
 
 -- one number more: it passes the test, or not
 pub count-passed : (test : ℕ → Bool) (n : ℕ) → test n ≡ true → countBelow test (n + 1) ≡ countBelow test n + 1
-unfolding countBelow
+unfolding sumBelow
 count-passed test n e = rw (add-one n, e) (omega arith)
 
 pub count-failed : (test : ℕ → Bool) (n : ℕ) → test n ≡ false → countBelow test (n + 1) ≡ countBelow test n
-unfolding countBelow
+unfolding sumBelow
 count-failed test n e = rw (add-one n, e) (omega arith)

@@ -1,7 +1,7 @@
 -- From the pass over the runs and the totals to the verdict, and from the verdict to the reply.
 use Prim.Native.Nat.{ℕ, _≤_, _<_}
 use mathlib.Core.Path.{_≡_, refl, sym, ap, _∙_}
-use mathlib.Core.Bool.{Bool, true, false, not}
+use mathlib.Core.Bool.{Bool, true, false}
 use mathlib.Core.Logic.{_↔_}
 use mathlib.Core.List.{List, [], _∷_}
 use native.Mathlib.Omega.{arith}
@@ -10,10 +10,9 @@ use lib.ListN.{length, getD}
 use borrow.Author.Tests.{ltb-true, lt-ltb, le-ltb, eq-eqb, ne-eqb}
 use Rattle.base.specs.Limits.{maxTasks}
 use Rattle.base.specs.Tests.{pick, and}
-use Rattle.base.specs.Lowest.{someBelow}
-use Rattle.base.specs.Places.{places}
+use Rattle.base.specs.Lowest.{everyBelow}
 use Rattle.base.proofs.TestLaws.{cases, and-left, and-right}
-use Rattle.base.proofs.LowestLaws.{some-same}
+use Rattle.base.proofs.LowestLaws.{every-same}
 use Rattle.base.proofs.PlaceLaws.{places-at}
 use Rattle.clock.specs.Clock.{badLaunch}
 use Rattle.table.specs.declared.Table.{Table}
@@ -22,11 +21,13 @@ use Rattle.table.specs.Answers.{numberOf, placeOf, isAccepted}
 use Rattle.table.specs.Reading.{tableIn, readAnswer}
 use Rattle.schedule.specs.declared.Job.{Job}
 use Rattle.schedule.specs.declared.Judged.{Judged}
-use Rattle.schedule.specs.Jobs.{noJob, jobOf, jobAt, workOf, counts}
+use Rattle.schedule.specs.Jobs.{jobOf, jobAt, workOf, counts}
+use Rattle.schedule.specs.JobArrays.{noJob, jobArray}
 use Rattle.schedule.specs.Ticks.{countBelow}
 use Rattle.schedule.specs.declared.Run.{Run}
-use Rattle.schedule.specs.Runs.{tooMany}
-use Rattle.schedule.specs.Judging.{noneEmpty, followFrom, inOrder, knownTasks, inWindows, totalOf, exactTotals, verdictBy, verdict, keptCount, discardedCount, firstBadMark, judgeDeclined, judgeBy, judgeTable, judged, Acceptable}
+use Rattle.schedule.specs.Runs.{everyRun, tooMany}
+use Rattle.schedule.specs.Judging.{noneEmpty, followFrom, eachFollows, knownTasks, inWindows, totalOf, exactTotals, verdictByJobs, verdict}
+use Rattle.schedule.specs.Judging.{countMarked, keptCount, discardedCount, firstBadMark, judgeDeclined, judgeByVerdict, judgeTable, judgeFile, judgeReply, Acceptable}
 use Rattle.schedule.proofs.TickLaws.{count-same}
 use Rattle.schedule.proofs.JudgeLaws.{judge-sound}
 use Rattle.schedule.specs.Passing.{passes, verdictByPass}
@@ -39,28 +40,25 @@ pass-fails job n marks runs e = rw e
 -- the runs pass, and the totals are looked at
 pub pass-totals : (job : ℕ → Job) (n : ℕ) (marks : List ℕ) (runs : List Run) (totals : List ℕ) → passes job n 0 runs ≡ true → n ≤ maxTasks
     → ((k : ℕ) → k < maxTasks → getD totals k 0 ≡ totalOf runs k)
-    → not (someBelow (λ k. not (eqb (getD totals k 0) (workOf (job k) (getD marks k 0)))) n) ≡ verdictByPass job n marks runs
-unfolding verdictByPass exactTotals
+    → everyBelow (λ k. eqb (getD totals k 0) (workOf (job k) (getD marks k 0))) n ≡ verdictByPass job n marks runs
+unfolding verdictByPass
 pass-totals job n marks runs totals e m h =
     rw e
-    (ap not
-    (some-same (λ k. not (eqb (getD totals k 0) (workOf (job k) (getD marks k 0)))) (λ k. not (eqb (totalOf runs k) (workOf (job k) (getD marks k 0)))) n
-    (λ k l. ap (λ (x : ℕ). not (eqb x (workOf (job k) (getD marks k 0)))) (h k (omega arith)))))
+    (every-same (λ k. eqb (getD totals k 0) (workOf (job k) (getD marks k 0))) (λ k. eqb (totalOf runs k) (workOf (job k) (getD marks k 0))) n
+    (λ k l. ap (λ (x : ℕ). eqb x (workOf (job k) (getD marks k 0))) (h k (omega arith))))
 
 -- jobs that agree at the positions below n make the same conditions
 windows-same : (f g : ℕ → Job) (n : ℕ) → ((k : ℕ) → k < n → f k ≡ g k) → (runs : List Run) → knownTasks n runs ≡ true → inWindows f runs ≡ inWindows g runs
-unfolding knownTasks inWindows
+unfolding everyRun
 windows-same f g n h [] e = refl
 windows-same f g n h (run ∷ runs) e =
     let task = ltb-true (run .task) n (and-left (ltb (run .task) n) (knownTasks n runs) e) in
     rw (h (run .task) task, windows-same f g n h runs (and-right (ltb (run .task) n) (knownTasks n runs) e))
 
 exact-same : (f g : ℕ → Job) (n : ℕ) (marks : List ℕ) (runs : List Run) → ((k : ℕ) → k < n → f k ≡ g k) → exactTotals f marks n runs ≡ exactTotals g marks n runs
-unfolding exactTotals
 exact-same f g n marks runs h =
-    ap not
-    (some-same (λ k. not (eqb (totalOf runs k) (workOf (f k) (getD marks k 0)))) (λ k. not (eqb (totalOf runs k) (workOf (g k) (getD marks k 0)))) n
-    (λ k l. ap (λ (job : Job). not (eqb (totalOf runs k) (workOf job (getD marks k 0)))) (h k l)))
+    every-same (λ k. eqb (totalOf runs k) (workOf (f k) (getD marks k 0))) (λ k. eqb (totalOf runs k) (workOf (g k) (getD marks k 0))) n
+    (λ k l. ap (λ (job : Job). eqb (totalOf runs k) (workOf job (getD marks k 0))) (h k l))
 
 regroup : (a b c d e : Bool) → and (and a (and b (and c d))) e ≡ and a (and b (and c (and d e)))
 regroup true true true d e = refl
@@ -78,78 +76,71 @@ both f g n marks runs h =
 -- the five conditions are the verdict on the table's own jobs
 pub pass-verdict : (launch : ℕ) (t : Table) (marks : List ℕ) (runs : List Run) (job : ℕ → Job) → ((k : ℕ) → k < t .count → job k ≡ jobAt launch t k)
     → verdictByPass job (t .count) marks runs ≡ verdict launch t marks runs
-unfolding verdictByPass passes verdict verdictBy inOrder
+unfolding verdictByPass passes verdict verdictByJobs eachFollows
 pass-verdict launch t marks runs job h =
     regroup (noneEmpty runs) (followFrom 0 runs) (knownTasks (t .count) runs) (inWindows job runs) (exactTotals job marks (t .count) runs)
     ∙ ap (λ (b : Bool). and (noneEmpty runs) (and (followFrom 0 runs) b)) (both job (jobAt launch t) (t .count) marks runs h)
 
--- the jobs of a table, as an array holds them
-pub jobs-at : (launch : ℕ) (t : Table) (jobs : List Job) → t .count ≤ maxTasks → jobs ≡ places (λ k. pick (ltb k (t .count)) (jobAt launch t k) noJob) maxTasks
+-- the jobs of a table, as an array has them
+pub jobs-at : (launch : ℕ) (t : Table) (jobs : List Job) → t .count ≤ maxTasks → jobs ≡ jobArray launch t
     → (k : ℕ) → k < t .count → getD jobs k noJob ≡ jobAt launch t k
 jobs-at launch t jobs m e k l =
     rw (e, places-at (λ k. pick (ltb k (t .count)) (jobAt launch t k) noJob) maxTasks k noJob (omega arith), lt-ltb k (t .count) l)
 
--- the counts over such an array are those of the table
-pub kept-same : (launch : ℕ) (t : Table) (marks : List ℕ) (job : ℕ → Job) → ((k : ℕ) → k < t .count → job k ≡ jobAt launch t k)
-    → countBelow (λ k. and (counts (job k)) (eqb (getD marks k 0) 1)) (t .count) ≡ keptCount t marks
-unfolding keptCount jobAt jobOf
-kept-same launch t marks job h =
-    count-same (λ k. and (counts (job k)) (eqb (getD marks k 0) 1)) (λ k. and (counts (jobAt launch t k)) (eqb (getD marks k 0) 1)) (t .count)
-    (λ k l. ap (λ (j : Job). and (counts j) (eqb (getD marks k 0) 1)) (h k l))
-
-pub discarded-same : (launch : ℕ) (t : Table) (marks : List ℕ) (job : ℕ → Job) → ((k : ℕ) → k < t .count → job k ≡ jobAt launch t k)
-    → countBelow (λ k. and (counts (job k)) (eqb (getD marks k 0) 0)) (t .count) ≡ discardedCount t marks
-unfolding discardedCount jobAt jobOf
-discarded-same launch t marks job h =
-    count-same (λ k. and (counts (job k)) (eqb (getD marks k 0) 0)) (λ k. and (counts (jobAt launch t k)) (eqb (getD marks k 0) 0)) (t .count)
-    (λ k l. ap (λ (j : Job). and (counts j) (eqb (getD marks k 0) 0)) (h k l))
+-- how many parts have a mark is the same over such an array and over the table
+pub marked-same : (mark launch : ℕ) (t : Table) (marks : List ℕ) (job : ℕ → Job) → ((k : ℕ) → k < t .count → job k ≡ jobAt launch t k)
+    → countBelow (λ k. and (counts (job k)) (eqb (getD marks k 0) mark)) (t .count) ≡ countMarked mark t marks
+unfolding countMarked jobAt jobOf
+marked-same mark launch t marks job h =
+    count-same (λ k. and (counts (job k)) (eqb (getD marks k 0) mark)) (λ k. and (counts (jobAt launch t k)) (eqb (getD marks k 0) mark)) (t .count)
+    (λ k l. ap (λ (j : Job). and (counts j) (eqb (getD marks k 0) mark)) (h k l))
 
 -- the reply, test by test, in the order of the refusals
 module _ (launch : ℕ) (t : Table) (marks : List ℕ) (runs : List Run) where
   pub launch-refused : badLaunch launch ≡ true → judgeDeclined 14 0 ≡ judgeTable launch t marks runs
-  unfolding judgeTable judgeBy verdict
+  unfolding judgeTable judgeByVerdict
   launch-refused e = rw e
 
   module _ (accepted : badLaunch launch ≡ false) where
     pub length-refused : (length marks ≡ t .count → ⊥) → judgeDeclined 11 (t .count) ≡ judgeTable launch t marks runs
-    unfolding judgeTable judgeBy verdict
+    unfolding judgeTable judgeByVerdict
     length-refused e = rw (accepted, ne-eqb (length marks) (t .count) e)
 
     module _ (long : length marks ≡ t .count) where
       pub mark-refused : firstBadMark marks (t .count) < t .count → judgeDeclined 11 (firstBadMark marks (t .count)) ≡ judgeTable launch t marks runs
-      unfolding judgeTable judgeBy verdict
+      unfolding judgeTable judgeByVerdict
       mark-refused l = rw (accepted, eq-eqb (length marks) (t .count) long, lt-ltb (firstBadMark marks (t .count)) (t .count) l)
 
       module _ (good : t .count ≤ firstBadMark marks (t .count)) where
         pub runs-refused : tooMany runs ≡ true → judgeDeclined 13 0 ≡ judgeTable launch t marks runs
-        unfolding judgeTable judgeBy verdict
+        unfolding judgeTable judgeByVerdict
         runs-refused e = rw (accepted, eq-eqb (length marks) (t .count) long, le-ltb (firstBadMark marks (t .count)) (t .count) good, e)
 
         module _ (few : tooMany runs ≡ false) where
           pub says-yes : verdict launch t marks runs ≡ true
               → _≡_ {A = Judged} (record { number = 0; place = 0; yes = true; kept = keptCount t marks; discarded = discardedCount t marks }) (judgeTable launch t marks runs)
-          unfolding judgeTable judgeBy verdict
+          unfolding judgeTable judgeByVerdict
           says-yes e = rw (accepted, eq-eqb (length marks) (t .count) long, le-ltb (firstBadMark marks (t .count)) (t .count) good, few, e)
 
           pub says-no : verdict launch t marks runs ≡ false
               → _≡_ {A = Judged} (record { number = 0; place = 0; yes = false; kept = 0; discarded = 0 }) (judgeTable launch t marks runs)
-          unfolding judgeTable judgeBy verdict
+          unfolding judgeTable judgeByVerdict
           says-no e = rw (accepted, eq-eqb (length marks) (t .count) long, le-ltb (firstBadMark marks (t .count)) (t .count) good, few, e)
 
 -- a refusal of reading is the judge's
 pub read-refused : (launch : ℕ) (file marks : List ℕ) (runs : List Run) → isAccepted (readAnswer file) ≡ false
-    → judgeDeclined (numberOf (readAnswer file)) (placeOf (readAnswer file)) ≡ judged launch file marks runs
-unfolding judged
+    → judgeDeclined (numberOf (readAnswer file)) (placeOf (readAnswer file)) ≡ judgeReply launch file marks runs
+unfolding judgeReply judgeFile
 read-refused launch file marks runs e = rw e
 
 -- on an accepted file the judge replies as on its table
 pub read-accepted : (launch : ℕ) (file marks : List ℕ) (runs : List Run) → readAnswer file ≡ Accepted
-    → judgeTable launch (tableIn file) marks runs ≡ judged launch file marks runs
-unfolding judged
+    → judgeTable launch (tableIn file) marks runs ≡ judgeReply launch file marks runs
+unfolding judgeReply judgeFile
 read-accepted launch file marks runs e = rw e
 
 -- a reply that is the judge's is sound
-pub sound-of : (launch : ℕ) (file marks : List ℕ) (runs : List Run) (r : Judged) → r ≡ judged launch file marks runs
+pub sound-of : (launch : ℕ) (file marks : List ℕ) (runs : List Run) (r : Judged) → r ≡ judgeReply launch file marks runs
     → r .number ≡ 0 → (r .yes ≡ true) ↔ Acceptable launch file marks runs
 sound-of launch file marks runs r e z =
     let law = judge-sound launch file marks runs (ap (λ (j : Judged). j .number) (sym e) ∙ z) in

@@ -1,30 +1,29 @@
 -- The busy count of an interval from a to b, of a run list that the check accepts: over all runs, the ticks that the run shares with the interval. It is
 -- the number of ticks of the interval that some run holds.
-use Prim.Native.Nat.{ℕ, _+_, _-_, _≤_, min, max}
+use Prim.Native.Nat.{ℕ, _-_, _≤_, min, max}
 use mathlib.Core.Path.{_≡_}
-use mathlib.Core.List.{List, [], _∷_}
+use mathlib.Core.List.{List}
 use Rattle.base.specs.Tests.{pick}
 use Rattle.schedule.specs.declared.Busy.{Busy}
 use Rattle.schedule.specs.declared.Run.{Run}
 use Rattle.schedule.specs.Ticks.{ticksOwned}
-use Rattle.schedule.specs.Runs.{ownerOf}
-use Rattle.schedule.specs.RunCheck.{runsAnswer, runsNumber, runsPlace, runsAccepted}
+use Rattle.schedule.specs.Runs.{sumRuns, ownerOf}
+use Rattle.schedule.specs.RunCheck.{checkAnswer, runsNumber, runsPlace, runsAccepted}
 
 -- the ticks that a run shares with the interval: from the later start to the earlier end, and none where that end is not after that start
 unfoldable pub shared : ℕ → ℕ → Run → ℕ
 shared a b run = min (run .end) b - max (run .start) a
 
 -- the sum over all runs
-unfoldable pub busySum : ℕ → ℕ → List Run → ℕ
-busySum a b [] = 0
-busySum a b (run ∷ runs) = shared a b run + busySum a b runs
+abbrev pub busySum : ℕ → ℕ → List Run → ℕ
+busySum a b runs = sumRuns (shared a b) runs
 
 -- the reply of the busy count: number and place are those of the check, whatever a and b are, and the ticks of a refused list are 0
 unfoldable pub busyReply : List Run → ℕ → ℕ → Busy
 busyReply runs a b = record {
-  number = runsNumber (runsAnswer runs);
-  place = runsPlace (runsAnswer runs);
-  ticks = pick (runsAccepted (runsAnswer runs)) (busySum a b runs) 0;
+  number = runsNumber (checkAnswer runs);
+  place = runsPlace (checkAnswer runs);
+  ticks = pick (runsAccepted (checkAnswer runs)) (busySum a b runs) 0;
 }
 
 -- what an accepted count tells: it is the number of ticks of the interval that some run holds, counted tick by tick, and so at most the number of ticks

@@ -2,30 +2,22 @@
 -- holds.
 use Prim.Native.Nat.{ℕ}
 use mathlib.Core.List.{List}
-use Rattle.base.specs.Tests.{pick}
 use Rattle.clock.specs.Clock.{releaseOffset, deadlineOffset}
 use Rattle.table.specs.declared.Table.{Table}
 use Rattle.table.specs.Tables.{taskAt}
-use Rattle.table.specs.Answers.{numberOf, placeOf, isAccepted}
-use Rattle.table.specs.Reading.{tableIn, readAnswer}
 use Rattle.schedule.specs.declared.Job.{Job}
 use Rattle.schedule.specs.declared.Judged.{Judged}
 use Rattle.schedule.specs.declared.Run.{Run}
-use Rattle.schedule.specs.Judging.{judgeDeclined, judgeBy}
+use Rattle.schedule.specs.Jobs.{jobBetween}
+use Rattle.schedule.specs.Judging.{verdictByJobs, judgeByVerdict, judgeFile}
 
 -- the job at a position of a table
 unfoldable pub earlierJobAt : Table → ℕ → Job
 earlierJobAt t k =
-    record {
-      position = k;
-      release = releaseOffset (t .p) (t .q) (taskAt t k .release);
-      deadline = deadlineOffset (t .p) (t .q) (taskAt t k .deadline);
-      mandatory = taskAt t k .mandatory;
-      optional = taskAt t k .optional;
-    }
+    let task = taskAt t k in
+    jobBetween (releaseOffset (t .p) (t .q) (task .release)) (deadlineOffset (t .p) (t .q) (task .deadline)) k task
 
 -- the reply of judging: reading's refusals, then 11 and 13
 unfoldable pub earlierJudged : List ℕ → List ℕ → List Run → Judged
 earlierJudged file marks runs =
-    pick (isAccepted (readAnswer file)) (judgeBy (earlierJobAt (tableIn file)) (tableIn file) marks runs)
-    (judgeDeclined (numberOf (readAnswer file)) (placeOf (readAnswer file)))
+    judgeFile (λ t. judgeByVerdict (verdictByJobs (earlierJobAt t) (t .count) marks runs) t marks runs) file

@@ -1,10 +1,9 @@
--- Jobs: the tasks of an accepted table in ticks of the frame clock at a launch tick. Nothing above asks the clock for a tick, but Earlier, whose jobs have
--- no launch tick.
-use Prim.Native.Nat.{ℕ, _+_, _-_, _≤_}
+-- Jobs: the tasks of an accepted table in ticks of the frame clock at a launch tick. Of the definitions that rest on this one
+-- none asks the clock for a tick, but Earlier, whose jobs have no launch tick, and the samples of the clock.
+use Prim.Native.Nat.{ℕ, _+_, _-_}
 use mathlib.Core.List.{List}
 use lib.Dec.{ltb, eqb}
 use mathlib.Core.Bool.{Bool}
-use Rattle.base.specs.Limits.{maxTicks, lastTick}
 use Rattle.base.specs.Tests.{pick}
 use Rattle.base.specs.Places.{places}
 use Rattle.clock.specs.Clock.{releaseTick, deadlineTick}
@@ -13,20 +12,15 @@ use Rattle.table.specs.declared.Table.{Table}
 use Rattle.table.specs.Tables.{taskAt}
 use Rattle.schedule.specs.declared.Job.{Job}
 
--- the job of which every number is 0
-abbrev pub noJob : Job
-noJob = record { position = 0; release = 0; deadline = 0; mandatory = 0; optional = 0 }
+-- a task at a position, with its window in ticks: from a release tick, included, to a deadline tick, excluded
+abbrev pub jobBetween : ℕ → ℕ → ℕ → Task → Job
+jobBetween release deadline position task =
+    record { position = position; release = release; deadline = deadline; mandatory = task .mandatory; optional = task .optional }
 
--- a task at a position under the period p/q, with its window in ticks at a launch tick: from its release, included, to its deadline, excluded
+-- a task at a position under the period p/q, at a launch tick
 unfoldable pub jobOf : ℕ → ℕ → ℕ → ℕ → Task → Job
 jobOf launch p q position task =
-    record {
-      position = position;
-      release = releaseTick launch p q (task .release);
-      deadline = deadlineTick launch p q (task .deadline);
-      mandatory = task .mandatory;
-      optional = task .optional;
-    }
+    jobBetween (releaseTick launch p q (task .release)) (deadlineTick launch p q (task .deadline)) position task
 
 -- the job at a position of a table at a launch tick
 unfoldable pub jobAt : ℕ → Table → ℕ → Job
@@ -52,10 +46,3 @@ workOf job mark = workWith job (eqb mark 1)
 -- an optional part counts where it has ticks
 abbrev pub counts : Job → Bool
 counts job = ltb 0 (job .optional)
-
--- a job within the limits of an accepted table: the theorem `job-bounded` says that each of its jobs is
-pub record Bounded (job : Job) : Type 0 where
-  pub release : job .release ≤ lastTick
-  pub deadline : job .deadline ≤ lastTick
-  pub mandatory : job .mandatory ≤ maxTicks
-  pub optional : job .optional ≤ maxTicks

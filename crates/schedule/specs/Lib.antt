@@ -2,10 +2,14 @@ pub mod Jobs
 pub mod Ticks
 pub mod Runnings
 pub mod Runs
+pub mod LentRuns
 pub mod Judging
+pub mod Freedoms
 pub mod RunCheck
 pub mod BusyCount
 pub mod Queries
-pub mod Passing
 pub mod Shifting
 pub mod Earlier
+pub mod JobArrays
+pub mod LaterJobs
+pub mod Passing

@@ -12,11 +12,11 @@ use Rattle.schedule.specs.declared.Job.{Job}
 use Rattle.schedule.specs.declared.Run.{Run}
 use Rattle.schedule.specs.Judging.{noneEmpty, followFrom, knownTasks, inWindows, totalOf, exactTotals}
 
--- of runs of which the first starts at tick `from` or later
+-- the four together, of runs of which the first starts at tick `from` or later
 unfoldable pub passes : (ℕ → Job) → ℕ → ℕ → List Run → Bool
 passes job n from runs = and (noneEmpty runs) (and (followFrom from runs) (and (knownTasks n runs) (inWindows job runs)))
 
--- of one run, whose task is known
+-- those of one run, by its start and end, whose task is known
 unfoldable pub runFits : Job → ℕ → ℕ → ℕ → Bool
 runFits job from start end = and (ltb start end) (and (leb from start) (and (leb (job .release) start) (leb end (job .deadline))))
 

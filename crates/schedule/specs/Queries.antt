@@ -18,7 +18,7 @@ use Rattle.schedule.specs.declared.Found.{Found}
 use Rattle.schedule.specs.declared.Found.the-variants as found
 use Rattle.schedule.specs.declared.Stretch.{Stretch}
 use Rattle.schedule.specs.Runs.{noRun, runHolds}
-use Rattle.schedule.specs.RunCheck.{runsAnswer, runsAccepted}
+use Rattle.schedule.specs.RunCheck.{checkAnswer, runsAccepted}
 use Rattle.schedule.specs.BusyCount.{shared}
 
 -- The two queries for one run.
@@ -32,22 +32,26 @@ firstRun test (run ∷ runs) = pick (test run) (some run) (firstRun test runs)
 abbrev pub startsFrom : ℕ → Run → Bool
 startsFrom tick run = leb tick (run .start)
 
--- the answer, by what the check of the list answers: a refusal, or the run, or that there is none
-abbrev pub foundBy : RunsAnswer → Option Run → Found
-foundBy checked.Accepted none = found.None
-foundBy checked.Accepted (some run) = found.One run
-foundBy checked.TooMany run = found.TooMany
-foundBy (checked.OutOfOrder index) run = found.OutOfOrder index
+-- the answer of a query after the check of the list: what the check refuses, or the run that was found, or that there is none
+abbrev pub afterCheck : RunsAnswer → Option Run → Found
+afterCheck checked.Accepted none = found.None
+afterCheck checked.Accepted (some run) = found.One run
+afterCheck checked.TooMany run = found.TooMany
+afterCheck (checked.OutOfOrder index) run = found.OutOfOrder index
+
+-- the answer of the query for the first run of a list that passes a test
+unfoldable pub foundFirst : (Run → Bool) → List Run → Found
+foundFirst test runs = afterCheck (checkAnswer runs) (firstRun test runs)
 
 -- the run that holds the tick: in a list that is accepted there is at most one
-unfoldable pub runAtTick : List Run → ℕ → Found
-runAtTick runs tick = foundBy (runsAnswer runs) (firstRun (λ run. runHolds run tick) runs)
+abbrev pub runAtTick : List Run → ℕ → Found
+runAtTick runs tick = foundFirst (λ run. runHolds run tick) runs
 
 -- the first in the list that starts at the tick or after it
-unfoldable pub runFromTick : List Run → ℕ → Found
-runFromTick runs tick = foundBy (runsAnswer runs) (firstRun (startsFrom tick) runs)
+abbrev pub runFromTick : List Run → ℕ → Found
+runFromTick runs tick = foundFirst (startsFrom tick) runs
 
--- the number, the place and the values of each of its cases: whether there is a run, and the run, which is 0 throughout where there is none
+-- of each case of an answer the number, the place and the values: whether there is a run, and the run, which is 0 throughout where there is none
 abbrev pub foundNumber : Found → ℕ
 foundNumber (found.One run) = 0
 foundNumber found.None = 0
@@ -66,11 +70,11 @@ isFound found.None = false
 isFound found.TooMany = false
 isFound (found.OutOfOrder index) = false
 
-abbrev pub foundRun : Found → Run
-foundRun (found.One run) = run
-foundRun found.None = noRun
-foundRun found.TooMany = noRun
-foundRun (found.OutOfOrder index) = noRun
+abbrev pub runFound : Found → Run
+runFound (found.One run) = run
+runFound found.None = noRun
+runFound found.TooMany = noRun
+runFound (found.OutOfOrder index) = noRun
 
 -- What the two answers mean.
 
@@ -84,7 +88,7 @@ pub record HolderAnswered (runs : List Run) (tick : ℕ) (answer : Found) : Type
 
 -- so it is where the check accepts the list
 abbrev pub HoldsTick : List Run → ℕ → Found → Type 0
-HoldsTick runs tick answer = runsAnswer runs ≡ checked.Accepted → HolderAnswered runs tick answer
+HoldsTick runs tick answer = checkAnswer runs ≡ checked.Accepted → HolderAnswered runs tick answer
 
 -- a run is the first from a tick on: it stands at an index of the list and starts at the tick or after it, and every run before it starts before the tick
 pub record IsFirstFrom (runs : List Run) (tick : ℕ) (run : Run) : Type 0 where
@@ -101,7 +105,7 @@ pub record FirstAnswered (runs : List Run) (tick : ℕ) (answer : Found) : Type 
 
 -- so it is where the check accepts the list
 abbrev pub FirstFrom : List Run → ℕ → Found → Type 0
-FirstFrom runs tick answer = runsAnswer runs ≡ checked.Accepted → FirstAnswered runs tick answer
+FirstFrom runs tick answer = checkAnswer runs ≡ checked.Accepted → FirstAnswered runs tick answer
 
 -- The query for an interval.
 
@@ -120,7 +124,7 @@ runsThat test (run ∷ runs) = pick (test run) (run ∷ runsThat test runs) (run
 
 -- the runs that share a tick with the interval, all of them and no other; none where the list is refused
 unfoldable pub touching : List Run → ℕ → ℕ → List Run
-touching runs a b = pick (runsAccepted (runsAnswer runs)) (runsThat (touches a b) runs) []
+touching runs a b = pick (runsAccepted (checkAnswer runs)) (runsThat (touches a b) runs) []
 
 -- where they stand in the list: the index of the first and how many they are; both are 0 where there is none
 unfoldable pub stretchOf : List Run → ℕ → ℕ → Stretch
@@ -128,15 +132,15 @@ stretchOf runs a b =
     pick (eqb (length (touching runs a b)) 0) (record { first = 0; runs = 0 })
     (record { first = lowest (λ k. touches a b (getD runs k noRun)) (length runs); runs = length (touching runs a b) })
 
--- a part of a list is one unbroken stretch of it: what stands before it and what stands behind it make up the rest, each run of the part is P, and none of the
--- rest is
-pub record Unbroken (P : Run → Type 0) (runs part : List Run) : Type 0 where
+-- runs are one unbroken stretch of a list: what stands before it and what stands behind it make up the rest; each run of the stretch is P, and none of
+-- the rest is
+pub record Unbroken (P : Run → Type 0) (runs stretch : List Run) : Type 0 where
   pub before : List Run
   pub behind : List Run
-  pub whole : runs ≡ before ++ (part ++ behind)
-  pub inside : All P part
+  pub whole : runs ≡ before ++ (stretch ++ behind)
+  pub inside : All P stretch
   pub left-out : All (λ run. P run → ⊥) before × All (λ run. P run → ⊥) behind
 
 -- the runs answered for an interval are one unbroken stretch of a list that is accepted: each shares a tick with the interval, and none of the others does
-abbrev pub TouchingPart : ℕ → ℕ → List Run → List Run → Type 0
-TouchingPart a b runs part = runsAnswer runs ≡ checked.Accepted → Unbroken (SharesTick a b) runs part
+abbrev pub TouchingStretch : ℕ → ℕ → List Run → List Run → Type 0
+TouchingStretch a b runs stretch = checkAnswer runs ≡ checked.Accepted → Unbroken (SharesTick a b) runs stretch

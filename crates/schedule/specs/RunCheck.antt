@@ -27,8 +27,8 @@ unfoldable pub firstOutOfOrder : List Run → ℕ
 firstOutOfOrder runs = lowest (outOfOrder runs) (length runs)
 
 -- what the check of a run list answers
-unfoldable pub runsAnswer : List Run → RunsAnswer
-runsAnswer runs =
+unfoldable pub checkAnswer : List Run → RunsAnswer
+checkAnswer runs =
     pick (tooMany runs) checked.TooMany
     (pick (ltb (firstOutOfOrder runs) (length runs)) (checked.OutOfOrder (firstOutOfOrder runs)) checked.Accepted)
 

@@ -10,7 +10,7 @@ use Rattle.base.specs.Tests.{and}
 use Rattle.base.specs.Members.{All, Any}
 use Rattle.schedule.specs.declared.Job.{Job}
 use Rattle.schedule.specs.Jobs.{counts}
-use Rattle.schedule.specs.Ticks.{Owner, ticksOf, one}
+use Rattle.schedule.specs.Ticks.{Owner, ticksOf, oneIf}
 
 -- the job has position i, and its window holds the tick
 abbrev pub WindowHolds : ℕ → ℕ → Job → Type 0
@@ -20,25 +20,28 @@ WindowHolds tick i job = (job .position ≡ i) × (job .release ≤ tick) × (ti
 abbrev pub got : Owner → Job → ℕ
 got owner job = ticksOf owner (job .position) (job .release) (job .deadline)
 
--- a running of jobs, where `May job n` says that a job may get n ticks: whoever has a tick is a job whose window holds it, and each job gets as
--- many as it may
+-- a job gets as many ticks as it may, where `May job n` says that it may get n
+abbrev pub Gets : (Job → ℕ → Type 0) → Owner → Job → Type 0
+Gets May owner job = May job (got owner job)
+
+-- a running of jobs: whoever has a tick is a job whose window holds it, and each job gets as many as it may
 pub record RunningOf (May : Job → ℕ → Type 0) (jobs : List Job) (owner : Owner) : Type 0 where
   pub inside : (tick i : ℕ) → owner tick ≡ some i → Any (WindowHolds tick i) jobs
-  pub gets : All (λ job. May job (got owner job)) jobs
+  pub gets : All (Gets May owner) jobs
 
 -- n ticks are the mandatory ticks of a job, or those and its optional ones: its optional part is run whole or not at all
 abbrev pub Whole : Job → ℕ → Type 0
 Whole job n = (n ≡ job .mandatory) ⊎ (n ≡ job .mandatory + job .optional)
 
--- a job gets its mandatory ticks, or those and its optional ones
-abbrev pub Gets : Owner → Job → Type 0
-Gets owner job = Whole job (got owner job)
-
--- a running of jobs: whoever has a tick is a job whose window holds it, and each job gets one of its two amounts
+-- a running of jobs whose optional parts are run whole or not at all
 abbrev pub Running : List Job → Owner → Type 0
 Running jobs owner = RunningOf Whole jobs owner
 
 -- how many optional parts above 0 ticks a running discards: those whose job gets its mandatory ticks alone
 unfoldable pub discards : List Job → Owner → ℕ
 discards [] owner = 0
-discards (job ∷ jobs) owner = one (and (counts job) (eqb (got owner job) (job .mandatory))) + discards jobs owner
+discards (job ∷ jobs) owner = oneIf (and (counts job) (eqb (got owner job) (job .mandatory))) + discards jobs owner
+
+-- no running of the jobs discards fewer optional parts
+abbrev pub Fewest : List Job → Owner → Type 0
+Fewest jobs owner = (other : Owner) → Running jobs other → discards jobs owner ≤ discards jobs other

@@ -1,8 +1,9 @@
--- Run lists, the columns of numbers that a planner writes them in, and the owner of ticks that a run list describes.
-use Prim.Native.Nat.{ℕ}
+-- Run lists, the columns of numbers that a planner writes them in, the owner of ticks that a run list describes, and when a keep list and runs are together
+-- a running.
+use Prim.Native.Nat.{ℕ, _+_}
 use mathlib.Core.Path.{_≡_}
 use mathlib.Core.List.{List, [], _∷_, map}
-use mathlib.Core.Bool.{Bool}
+use mathlib.Core.Bool.{Bool, true}
 use mathlib.Core.Option.{none, some}
 use lib.Dec.{leb, ltb}
 use lib.ListN.{length, getD}
@@ -28,11 +29,11 @@ unfoldable pub tooMany : List Run → Bool
 tooMany runs = ltb maxRuns (length runs)
 
 -- the run at an index of columns of one length, and the run list that they are
-unfoldable pub runAt : List ℕ → List ℕ → List ℕ → ℕ → Run
-runAt starts ends tasks k = record { start = getD starts k 0; end = getD ends k 0; task = getD tasks k 0 }
+unfoldable pub runAtIndex : List ℕ → List ℕ → List ℕ → ℕ → Run
+runAtIndex starts ends tasks k = runOf (getD starts k 0) (getD ends k 0) (getD tasks k 0)
 
 unfoldable pub runsOf : List ℕ → List ℕ → List ℕ → List Run
-runsOf starts ends tasks = places (runAt starts ends tasks) (length starts)
+runsOf starts ends tasks = places (runAtIndex starts ends tasks) (length starts)
 
 -- the columns of a run list
 abbrev pub startsOf : List Run → List ℕ
@@ -43,6 +44,16 @@ endsOf runs = map (λ run. run .end) runs
 
 abbrev pub tasksOf : List Run → List ℕ
 tasksOf runs = map (λ run. run .task) runs
+
+-- every run of a list passes a test
+unfoldable pub everyRun : (Run → Bool) → List Run → Bool
+everyRun test [] = true
+everyRun test (run ∷ runs) = and (test run) (everyRun test runs)
+
+-- the sum of `number run` over the runs of a list
+unfoldable pub sumRuns : (Run → ℕ) → List Run → ℕ
+sumRuns number [] = 0
+sumRuns number (run ∷ runs) = number run + sumRuns number runs
 
 -- the run holds the tick
 abbrev pub runHolds : Run → ℕ → Bool

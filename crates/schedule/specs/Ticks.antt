@@ -18,29 +18,28 @@ abbrev pub isOwned : Option ℕ → Bool
 isOwned none = false
 isOwned (some k) = true
 
--- 1 for a test that is passed, and 0 for one that is not
-abbrev pub one : Bool → ℕ
-one true = 1
-one false = 0
+-- 1 if a test is passed, and else 0
+abbrev pub oneIf : Bool → ℕ
+oneIf true = 1
+oneIf false = 0
 
--- the sum of a number of each over the numbers below n
+-- the sum of `number k` over all k below n
 unfoldable pub sumBelow : (ℕ → ℕ) → ℕ → ℕ
 sumBelow number zero = 0
 sumBelow number (suc n) = number n + sumBelow number n
 
 -- how many of the numbers below n pass a test
-unfoldable pub countBelow : (ℕ → Bool) → ℕ → ℕ
-countBelow test zero = 0
-countBelow test (suc n) = one (test n) + countBelow test n
+abbrev pub countBelow : (ℕ → Bool) → ℕ → ℕ
+countBelow test n = sumBelow (λ k. oneIf (test k)) n
 
--- how many of the ticks from a, included, to b, excluded, pass a test
-abbrev pub countIn : (ℕ → Bool) → ℕ → ℕ → ℕ
-countIn test a b = countBelow test b - countBelow test a
+-- how many of the ticks from a, included, to b, excluded, pass a test: those below b that are not below a, and none where b is not above a
+abbrev pub countBetween : (ℕ → Bool) → ℕ → ℕ → ℕ
+countBetween test a b = countBelow test b - countBelow test a
 
 -- how many of the ticks from a to b task i has
 abbrev pub ticksOf : Owner → ℕ → ℕ → ℕ → ℕ
-ticksOf owner i a b = countIn (λ tick. isTask i (owner tick)) a b
+ticksOf owner i a b = countBetween (λ tick. isTask i (owner tick)) a b
 
 -- how many of the ticks from a to b have an owner
 abbrev pub ticksOwned : Owner → ℕ → ℕ → ℕ
-ticksOwned owner a b = countIn (λ tick. isOwned (owner tick)) a b
+ticksOwned owner a b = countBetween (λ tick. isOwned (owner tick)) a b

@@ -1,16 +1,15 @@
-// Schedules: the tasks of a table in ticks, and the replies of the calls that look at finished plans. The definitions of a running, of run
+// Jobs (the tasks of a table in ticks), runs, and the replies and answers of the calls that look at finished plans. The definitions of a running, of run
 // lists and of what these calls answer stand in specs/.
 ghost use mathlib.Core.Path.{_≡_};
 ghost use Prim.Native.Nat.{ℕ, _≤_, _<_};
 ghost use lib.Dec.{ltb};
 ghost use Rattle.base.specs.Limits.{maxTasks, maxRuns, lastFrame, maxLaunch};
-ghost use Rattle.base.specs.Tests.{pick};
-ghost use Rattle.base.specs.Places.{places};
 ghost use Rattle.table.specs.Tables.{taskAt};
 ghost use Rattle.clock.specs.Clock.{LegalPeriod};
 ghost use Rattle.schedule.specs.RunCheck.{runsNumber, runsPlace};
-ghost use Rattle.schedule.specs.Queries.{foundNumber, foundPlace, isFound, foundRun};
-ghost use Rattle.schedule.specs.Jobs.{noJob, jobOf, jobAt, windowTicks};
+ghost use Rattle.schedule.specs.Queries.{foundNumber, foundPlace, isFound, runFound};
+ghost use Rattle.schedule.specs.Jobs.{jobOf, windowTicks};
+ghost use Rattle.schedule.specs.JobArrays.{jobArray};
 use base::MAX_RUNS;
 use base::MAX_TASKS;
 use table::Table;
@@ -147,7 +146,7 @@ impl Found {
 
     // The run, which is 0 throughout where there is none.
     pub fn run(self) -> Run
-        ensures { λ r. ⌜ r ≡ foundRun self ⌝ }
+        ensures { λ r. ⌜ r ≡ runFound self ⌝ }
     {
         match self {
             Found::One(run) => run,
@@ -204,7 +203,7 @@ pub fn jobs_of(table: Table, launch: u32) -> [Job; MAX_TASKS]
     requires { ⌜ launch ≤ maxLaunch ⌝ }
     requires { ⌜ LegalPeriod (table .p) (table .q) ⌝ }
     requires { ⌜ ((k : ℕ) → k < table .count → (taskAt table k .release ≤ lastFrame) × (taskAt table k .deadline ≤ lastFrame)) ⌝ }
-    ensures { λ r. ⌜ r ≡ places (λ k. pick (ltb k (table .count)) (jobAt launch table k) noJob) maxTasks ⌝ }
+    ensures { λ r. ⌜ r ≡ jobArray launch table ⌝ }
 {
     let mut jobs = [NO_JOB; MAX_TASKS];
     let count = table.count as usize;

@@ -6,15 +6,15 @@
 // title, and the number and place of the answer; then of judging the verdict and the counts kept and discarded, of counting the ticks, and of asking the run
 // at the tick, the first run that starts at it or after it, and the stretch that touches the interval.
 //
-// The last cases are about the comparison that this program makes itself. Such a line has runs that stand in an array, runs that are held, and the first index
-// of a stretch of the array and how many runs it has. What is printed is that index and how many runs are held, and `other` where these are not the runs of
-// the stretch.
+// The last cases are about the comparison that this program makes itself. Such a line has runs that stand in an array, runs that stand in columns, and the first
+// index of a stretch of the array and how many runs it has. What is printed is that index and how many runs the columns have, and `other` where these are not
+// the runs of the stretch.
 //
 // The runs of a case stand in an array, and its first runs are lent to the entry points as a list of records.
 ghost use Prim.Native.Nat.{_≤_};
-ghost use Rattle.records.specs.RecordColumns.{HeldColumns};
+ghost use Rattle.records.specs.RecordColumns.{LegalColumns};
 use libc::STDIN_FILENO;
-use records::HELD_RUNS;
+use records::MAX_COPIED;
 use records::RunColumns;
 use schedule::Busy;
 use schedule::Found;
@@ -25,11 +25,11 @@ use schedule::Stretch;
 // The runs of a case, from the field of their starts on.
 fn runs_at(line: &[u8], field: usize) -> RunColumns
     requires { ⌜ field ≤ 4 ⌝ }
-    ensures { λ r. ⌜ HeldColumns r ⌝ }
+    ensures { λ r. ⌜ LegalColumns r ⌝ }
 {
-    let mut starts = [0u32; HELD_RUNS];
-    let mut ends = [0u32; HELD_RUNS];
-    let mut tasks = [0u32; HELD_RUNS];
+    let mut starts = [0u32; MAX_COPIED];
+    let mut ends = [0u32; MAX_COPIED];
+    let mut tasks = [0u32; MAX_COPIED];
     let count = cases::numbers(line, field, &mut starts);
     cases::numbers(line, field + 1, &mut ends);
     cases::numbers(line, field + 2, &mut tasks);
@@ -118,16 +118,16 @@ fn is_run(run: Run, start: u32, end: u32, task: u32) -> bool {
 }
 
 // The runs that columns hold are those of a stretch of an array.
-fn are_runs(rows: [Run; HELD_RUNS], stretch: Stretch, part: RunColumns) -> bool {
+fn are_runs(rows: [Run; MAX_COPIED], stretch: Stretch, part: RunColumns) -> bool {
     let first = stretch.first;
     let count = stretch.runs;
     if part.count != count {
         return false;
     }
-    if HELD_RUNS < first {
+    if MAX_COPIED < first {
         return false;
     }
-    if HELD_RUNS - first < count {
+    if MAX_COPIED - first < count {
         return false;
     }
     let mut i: usize = 0;
@@ -143,7 +143,7 @@ fn are_runs(rows: [Run; HELD_RUNS], stretch: Stretch, part: RunColumns) -> bool 
 
 // Prints the runs that share a tick with the interval: the first index of their stretch and how many they are, and where they are not the runs of the
 // stretch, that they are others.
-fn show_stretch(rows: [Run; HELD_RUNS], stretch: Stretch, part: RunColumns) {
+fn show_stretch(rows: [Run; MAX_COPIED], stretch: Stretch, part: RunColumns) {
     cases::show(b" # #", &[stretch.first as u64, part.count as u64]);
     if !are_runs(rows, stretch, part) {
         cases::text(b" other");
@@ -168,7 +168,7 @@ fn ask(line: &[u8]) {
     show_found(from);
     cases::text(b" touching");
     let part = answers.touching;
-    show_stretch(rows, queries::stretch_held(columns, a, b), part);
+    show_stretch(rows, queries::stretch_copied(columns, a, b), part);
 }
 
 // A case of the comparison that this program makes itself.

@@ -9,7 +9,7 @@ use Rattle.base.specs.Lowest.{lowest}
 use Rattle.base.proofs.LowestLaws.{same}
 use Rattle.schedule.specs.declared.RunsAnswer.the-variants as checked
 use Rattle.schedule.specs.Runs.{runsOf}
-use Rattle.schedule.specs.RunCheck.{runsAnswer}
+use Rattle.schedule.specs.RunCheck.{checkAnswer}
 use Rattle.schedule.proofs.ColumnLaws.{columns-length, start-at, end-at}
 use Rattle.schedule.proofs.CheckLaws.{accepted-order, starts-rise, ends-rise}
 use Rattle.schedule.proofs.SearchLaws.{endsAfter, startsFromAt, firstEnding, firstStarting}
@@ -28,7 +28,7 @@ module _ (starts ends tasks : List ℕ) where
       (same (λ k. leb tick (getD starts k 0)) (startsFromAt (runsOf starts ends tasks) tick) (length starts) (λ k l. rw (start-at starts ends tasks k l)))
 
   -- the columns of an accepted list do not fall
-  module _ (accepted : runsAnswer (runsOf starts ends tasks) ≡ checked.Accepted) where
+  module _ (accepted : checkAnswer (runsOf starts ends tasks) ≡ checked.Accepted) where
     pub starts-column : (i k : ℕ) → i ≤ k → k < length starts → getD starts i 0 ≤ getD starts k 0
     starts-column i k l h =
         rw (← start-at starts ends tasks i (omega arith), ← start-at starts ends tasks k h)

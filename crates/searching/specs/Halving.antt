@@ -1,4 +1,4 @@
--- Only proofs use it: what is left of a number of places that a search halves.
+-- What is left of a number of places that a search halves: the theorem `twelve-steps` says that of 4,096 places at most one is left after 12 steps.
 use Prim.Native.Nat.{ℕ, zero, suc, _-_, _/_}
 
 -- what is left after one step: all but the lower half, rounded down

@@ -8,8 +8,9 @@ ghost use lib.Dec.{leb};
 ghost use lib.ListN.{length, getD};
 ghost use Rattle.base.specs.Limits.{maxRuns};
 ghost use Rattle.base.specs.Lowest.{lowest};
-ghost use Rattle.schedule.specs.Runs.{runAt, runsOf};
-ghost use Rattle.schedule.specs.Queries.{foundBy, runAtTick, runFromTick, stretchOf};
+ghost use Rattle.schedule.specs.Runs.{runAtIndex, runsOf};
+ghost use Rattle.schedule.specs.LentRuns.{OneLength, runsBefore};
+ghost use Rattle.schedule.specs.Queries.{afterCheck, runAtTick, runFromTick, stretchOf};
 use schedule::Found;
 use schedule::Run;
 use schedule::RunsAnswer;
@@ -44,9 +45,9 @@ fn first_from(column: &[u32], bound: u64) -> usize
 
 // The run at an index of the columns.
 fn run_at_index(starts: &[u32], ends: &[u32], tasks: &[u32], i: usize) -> Run
-    requires { ⌜ (length (now starts) ≡ length (now ends)) × (length (now starts) ≡ length (now tasks)) ⌝ }
+    requires { ⌜ OneLength starts ends tasks ⌝ }
     requires { ⌜ i < length (now starts) ⌝ }
-    ensures { λ r. ⌜ r ≡ runAt (now (starts .entry)) (now (ends .entry)) (now (tasks .entry)) i ⌝ }
+    ensures { λ r. ⌜ r ≡ runAtIndex (now (starts .entry)) (now (ends .entry)) (now (tasks .entry)) i ⌝ }
 {
     Run {
         start: starts[i],
@@ -55,9 +56,9 @@ fn run_at_index(starts: &[u32], ends: &[u32], tasks: &[u32], i: usize) -> Run
     }
 }
 
-// What a check that refuses comes to as the answer of a query.
-fn refused(answer: RunsAnswer) -> Found
-    ensures { λ r. ⌜ r ≡ foundBy answer none ⌝ }
+// What a query answers where it has found no run: what the check refuses, or that there is none.
+fn none_found(answer: RunsAnswer) -> Found
+    ensures { λ r. ⌜ r ≡ afterCheck answer none ⌝ }
 {
     match answer {
         RunsAnswer::Accepted => Found::None,
@@ -68,12 +69,12 @@ fn refused(answer: RunsAnswer) -> Found
 
 // The run that holds a tick: of an ordered list the first that ends after the tick, where it has begun.
 pub fn run_at(starts: &[u32], ends: &[u32], tasks: &[u32], tick: u32) -> Found
-    requires { ⌜ (length (now starts) ≡ length (now ends)) × (length (now starts) ≡ length (now tasks)) ⌝ }
-    ensures { λ r. ⌜ r ≡ runAtTick (runsOf (now (starts .entry)) (now (ends .entry)) (now (tasks .entry))) tick ⌝ }
+    requires { ⌜ OneLength starts ends tasks ⌝ }
+    ensures { λ r. ⌜ r ≡ runAtTick (runsBefore starts ends tasks) tick ⌝ }
 {
     let answer = checking::check(starts, ends);
     let RunsAnswer::Accepted = answer else {
-        return refused(answer);
+        return none_found(answer);
     };
     let i = first_from(ends, tick as u64 + 1);
     if starts.len() <= i {
@@ -87,12 +88,12 @@ pub fn run_at(starts: &[u32], ends: &[u32], tasks: &[u32], tick: u32) -> Found
 
 // The first run that starts at a tick or after it.
 pub fn run_from(starts: &[u32], ends: &[u32], tasks: &[u32], tick: u32) -> Found
-    requires { ⌜ (length (now starts) ≡ length (now ends)) × (length (now starts) ≡ length (now tasks)) ⌝ }
-    ensures { λ r. ⌜ r ≡ runFromTick (runsOf (now (starts .entry)) (now (ends .entry)) (now (tasks .entry))) tick ⌝ }
+    requires { ⌜ OneLength starts ends tasks ⌝ }
+    ensures { λ r. ⌜ r ≡ runFromTick (runsBefore starts ends tasks) tick ⌝ }
 {
     let answer = checking::check(starts, ends);
     let RunsAnswer::Accepted = answer else {
-        return refused(answer);
+        return none_found(answer);
     };
     let i = first_from(starts, tick as u64);
     if starts.len() <= i {

@@ -6,15 +6,17 @@ use mathlib.Core.Bool.{Bool, true, false}
 use native.Mathlib.Omega.{arith}
 use lib.ListN.{length, getD, replicate, length-map, getD-replicate}
 use Rattle.base.specs.Limits.{maxTasks}
-use Rattle.base.specs.Places.{places, firstPlaces}
+use Rattle.base.specs.Places.{places}
+use Rattle.base.specs.Arrays.{firstPlaces}
 use Rattle.base.proofs.PlaceLaws.{places-length, places-is}
 use Rattle.schedule.specs.declared.Job.{Job}
-use Rattle.choice.specs.Choice.{discardMarks, discardedWorth, countOne, ChosenFor}
+use Rattle.choice.specs.Choice.{discardMarks, discardedWorth, countOne}
+use Rattle.choice.specs.KeepLists.{ChosenFor}
 use Rattle.choice.specs.Programme.{allWorth}
 use Rattle.choice.proofs.LexLaws.{LexAtMost}
 use Rattle.choice.proofs.FitLaws.{worth-split}
 use Rattle.sequence.specs.InOrder.{fitsInOrder}
-use Rattle.sequence.specs.OrderChoice.{orderKey, chosenInOrder}
+use Rattle.sequence.specs.OrderChoice.{choiceKeyInOrder, chosenInOrder}
 use Rattle.sequence.specs.KeptRows.{sameMarks}
 use Rattle.sequence.proofs.InOrderLaws.{order-length, none-earliest}
 use Rattle.sequence.proofs.OrderChoiceLaws.{BestInOrder, order-unique, chosen-best}
@@ -34,7 +36,7 @@ all-first (job ∷ jobs) (keep ∷ other) n = (omega arith, λ e. all-first jobs
 
 -- Where it fits, it is the chosen list.
 all-chosen : (jobs : List Job) → fitsInOrder jobs (sameMarks true jobs) ≡ true → sameMarks true jobs ≡ chosenInOrder jobs
-unfolding LexAtMost orderKey
+unfolding LexAtMost choiceKeyInOrder
 all-chosen jobs fit =
     let none = all-worth countOne jobs in
     let best : BestInOrder countOne jobs (sameMarks true jobs) =
@@ -57,7 +59,7 @@ same-places at count small =
 -- What the choice comes to then: all parts are kept.
 pub all-gives : (at : ℕ → Job) (count parts : ℕ) → count ≤ maxTasks → parts ≡ allWorth countOne (places at count)
     → fitsInOrder (places at count) (sameMarks true (places at count)) ≡ true
-    → ChosenFor (chosenInOrder (places at count)) (places at count) (firstPlaces false (replicate maxTasks true) count) parts 0
+    → ChosenFor chosenInOrder (places at count) (firstPlaces false (replicate maxTasks true) count) parts 0
 all-gives at count parts small e fit =
     let jobs = places at count in
     let none = all-worth countOne jobs in

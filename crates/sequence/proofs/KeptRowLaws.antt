@@ -10,14 +10,16 @@ use lib.Dec.{leb}
 use lib.ListN.{length, getD, set, drop, replicate, length-set, length-replicate, getD-replicate}
 use lib.Seq.{getD-set-same, getD-set-other}
 use Rattle.base.specs.Limits.{maxTasks, maxTicks}
-use Rattle.base.specs.Places.{places, firstPlaces}
+use Rattle.base.specs.Places.{places}
+use Rattle.base.specs.Arrays.{firstPlaces}
 use Rattle.base.specs.Tests.{pick}
 use Rattle.base.proofs.PlaceLaws.{places-length, places-is, left-start, left-step, left-end}
 use Rattle.base.proofs.ArrayFilling.{Filled, filled-start, filled-set}
 use Rattle.base.proofs.TestLaws.{cases, pick-cases}
 use Rattle.base.proofs.MemberLaws.{all-from}
 use Rattle.schedule.specs.declared.Job.{Job}
-use Rattle.schedule.specs.Jobs.{Bounded, workWith}
+use Rattle.schedule.specs.Jobs.{workWith}
+use Rattle.schedule.specs.JobArrays.{Bounded}
 use Rattle.base.specs.Members.{All}
 use Rattle.choice.specs.Choice.{keepNone, countOne, kept, discarded}
 use Rattle.choice.specs.Programme.{mandatorySum, allWorth, greatest}

@@ -13,7 +13,8 @@ use Rattle.schedule.specs.declared.Job.{Job}
 use Rattle.base.specs.Members.{All}
 use Rattle.schedule.specs.Jobs.{workWith}
 use Rattle.choice.specs.Choice.{keepNone}
-use Rattle.sequence.specs.InOrder.{startsAt, inTime, finish, fitsInOrder, firstLate, LateAt}
+use Rattle.sequence.specs.InOrder.{startsAt, inTime, finish, fitsInOrder, firstLate}
+use Rattle.sequence.specs.Similar.{LateAt}
 use Rattle.sequence.proofs.InOrderLaws.{late-known, time-known}
 
 -- the work of a job that is not kept is its mandatory ticks

@@ -6,7 +6,7 @@ pub mod OrderNecessity
 pub mod OrderSufficiency
 pub mod RunListLaws
 pub mod LateLaws
-pub mod OrderBest
+pub mod OrderRunnings
 pub mod WalkLaws
 pub mod RewriteLaws
 pub mod KeptRowLaws

@@ -1,26 +1,26 @@
--- Laws of the choice for similar jobs: the chosen list is the one that the rules take, the rows give it, ties included, and it marks optional
--- parts of 0 ticks as kept. Nothing is asked of the jobs here.
+-- Laws of the choice for similar jobs: the chosen list fits, its key is at most that of every list that fits, the rows give it, ties included, and it
+-- marks optional parts of 0 ticks as kept. Nothing is asked of the jobs here.
 use Prim.Native.Nat.{ℕ, suc, _-_, _≤_, _<_, max}
-use mathlib.Core.Path.{_≡_, sym}
+use mathlib.Core.Path.{_≡_}
 use mathlib.Core.List.{List, [], _∷_}
 use mathlib.Core.Bool.{Bool, true}
 use native.Mathlib.Omega.{arith}
-use lib.ListN.{length}
 use Rattle.schedule.specs.declared.Job.{Job}
 use Rattle.base.specs.Members.{All}
 use Rattle.base.proofs.MemberLaws.{all-map}
-use Rattle.choice.specs.Choice.{keepNone, keptWorth, ZeroKept, countOne}
+use Rattle.choice.specs.Choice.{keepNone, keptWorth, countOne}
+use Rattle.choice.specs.KeepLists.{ZeroKept}
 use Rattle.choice.specs.Programme.{allWorth}
 use Rattle.choice.proofs.LexLaws.{LexAtMost}
 use Rattle.choice.proofs.BestLaws.{Best, best-of-all, best-one}
-use Rattle.choice.proofs.TieLaws.{marks-apart, marks-least, atMost-first}
+use Rattle.choice.proofs.TieLaws.{marks-apart}
 use Rattle.choice.proofs.FitLaws.{worth-split}
 use Rattle.choice.proofs.ProgrammeLaws.{greatest-is}
 use Rattle.choice.proofs.ChoiceLaws.{counted-zero}
 use Rattle.sequence.specs.InOrder.{finish, fitsInOrder}
-use Rattle.sequence.specs.OrderChoice.{orderKey, chosenInOrderBy, chosenInOrder, MeetsOrderRules}
+use Rattle.sequence.specs.OrderChoice.{choiceKeyInOrder, chosenInOrderOver, chosenInOrder}
 use Rattle.sequence.specs.OrderRows.{earliest, readBack, mostWorth, chosenByRows}
-use Rattle.sequence.proofs.InOrderLaws.{order-length, none-earliest, finish-by}
+use Rattle.sequence.proofs.InOrderLaws.{order-length, finish-by}
 use Rattle.sequence.proofs.OrderRowLaws.{EndsBy, earliest-least, back-ends, back-first, back-zero}
 
 -- a tick that no deadline is after
@@ -36,51 +36,17 @@ deadlines-by (job ∷ jobs) = (omega arith, all-map _ _ jobs (λ other l. omega 
 module _ (worth : Job → ℕ) where
   -- a list that fits, and whose key is at most that of every list that fits
   abbrev pub BestInOrder : List Job → List Bool → Type 0
-  BestInOrder jobs keeps = Best (fitsInOrder jobs) (orderKey worth jobs) keeps
+  BestInOrder jobs keeps = Best (fitsInOrder jobs) (choiceKeyInOrder worth jobs) keeps
 
   -- there is one such list at most
   pub order-unique : (jobs : List Job) (a b : List Bool) → BestInOrder jobs a → BestInOrder jobs b → a ≡ b
-  unfolding orderKey
-  order-unique jobs a b p q = best-one (fitsInOrder jobs) (orderKey worth jobs) (λ x y e. marks-apart x y (cc)) a b p q
-
-  -- it is the list that the rules take
-  pub best-meets : (jobs : List Job) (keeps : List Bool) → BestInOrder jobs keeps → MeetsOrderRules worth jobs keeps
-  unfolding LexAtMost orderKey
-  best-meets jobs keeps b =
-      record {
-        fit = b .fit;
-        leastDiscarded = λ other e. b .least other e .0;
-        last = λ other e d.
-            atMost-first keeps other (omega (arith, order-length jobs keeps (b .fit), order-length jobs other e)) (b .least other e .1 (sym d));
-      }
-
-  -- and the list that the rules take is it
-  pub meets-best : (jobs : List Job) (keeps : List Bool) → MeetsOrderRules worth jobs keeps → BestInOrder jobs keeps
-  unfolding LexAtMost orderKey
-  meets-best jobs keeps t =
-      record {
-        fit = t .fit;
-        least = λ other e. (t .leastDiscarded other e, λ d. marks-least keeps other (t .last other e (sym d)));
-      }
+  unfolding choiceKeyInOrder
+  order-unique jobs a b p q = best-one (fitsInOrder jobs) (choiceKeyInOrder worth jobs) (λ x y e. marks-apart x y (cc)) a b p q
 
   -- the chosen list is best
-  pub chosen-best : (jobs : List Job) → fitsInOrder jobs (keepNone jobs) ≡ true → BestInOrder jobs (chosenInOrderBy worth jobs)
-  unfolding chosenInOrderBy
-  chosen-best jobs none = best-of-all (fitsInOrder jobs) (orderKey worth jobs) jobs none (λ other e. order-length jobs other e)
-
-  -- The choice meets the rules: it fits, no list that fits discards less, and of those that discard as much every other discards at the last job
-  -- where the two differ.
-  pub order-meets : (jobs : List Job) → fitsInOrder jobs (keepNone jobs) ≡ true → MeetsOrderRules worth jobs (chosenInOrderBy worth jobs)
-  order-meets jobs none = best-meets jobs _ (chosen-best jobs none)
-
-  -- A list that meets the rules is the chosen one.
-  pub meets-order : (jobs : List Job) (keeps : List Bool) → MeetsOrderRules worth jobs keeps → keeps ≡ chosenInOrderBy worth jobs
-  meets-order jobs keeps t =
-      order-unique jobs _ _ (meets-best jobs keeps t) (chosen-best jobs (none-earliest jobs keeps (t .fit) .0))
-
-  -- The chosen list has one mark a job.
-  pub chosen-order-length : (jobs : List Job) → fitsInOrder jobs (keepNone jobs) ≡ true → length (chosenInOrderBy worth jobs) ≡ length jobs
-  chosen-order-length jobs none = order-length jobs _ (chosen-best jobs none .fit)
+  pub chosen-best : (jobs : List Job) → fitsInOrder jobs (keepNone jobs) ≡ true → BestInOrder jobs (chosenInOrderOver worth jobs)
+  unfolding chosenInOrderOver
+  chosen-best jobs none = best-of-all (fitsInOrder jobs) (choiceKeyInOrder worth jobs) jobs none (λ other e. order-length jobs other e)
 
 -- The choice by rows, where huge is above every deadline.
 module _ (worth : Job → ℕ) (huge : ℕ) where
@@ -88,7 +54,7 @@ module _ (worth : Job → ℕ) (huge : ℕ) where
   back-best : (jobs : List Job) (v bound : ℕ) → earliest worth huge jobs v ≤ bound → bound < huge
       → ((other : List Bool) → fitsInOrder jobs other ≡ true → (keptWorth worth jobs other ≤ v) × (finish jobs other ≤ bound))
       → BestInOrder worth jobs (readBack worth huge jobs v bound)
-  unfolding LexAtMost orderKey
+  unfolding LexAtMost choiceKeyInOrder
   back-best jobs v bound h l most =
       let f = back-ends worth huge jobs v bound h l in
       let all = worth-split worth jobs (readBack worth huge jobs v bound) (order-length jobs _ (f .fit)) in
@@ -123,12 +89,12 @@ module _ (worth : Job → ℕ) (huge : ℕ) where
 
   -- The rows give the chosen list, ties included.
   pub order-rows : (jobs : List Job) → All (λ job. job .deadline < huge) jobs → 0 < huge → fitsInOrder jobs (keepNone jobs) ≡ true
-      → chosenInOrderBy worth jobs ≡ chosenByRows worth huge jobs
+      → chosenInOrderOver worth jobs ≡ chosenByRows worth huge jobs
   order-rows jobs a z none = order-unique worth jobs _ _ (chosen-best worth jobs none) (rows-best jobs a z none)
 
   -- The chosen list keeps the most worth.
   pub order-keeps : (jobs : List Job) → All (λ job. job .deadline < huge) jobs → 0 < huge → fitsInOrder jobs (keepNone jobs) ≡ true
-      → EndsBy worth jobs (mostWorth worth huge jobs) (huge - 1) (chosenInOrderBy worth jobs)
+      → EndsBy worth jobs (mostWorth worth huge jobs) (huge - 1) (chosenInOrderOver worth jobs)
   unfolding chosenByRows
   order-keeps jobs a z none =
       let l = most-worth jobs a z _ none .0 in
@@ -136,7 +102,7 @@ module _ (worth : Job → ℕ) (huge : ℕ) where
 
 -- Where optional parts of 0 ticks are worth nothing, the chosen list marks each as kept.
 pub order-zero : (worth : Job → ℕ) → ((job : Job) → job .optional ≡ 0 → worth job ≡ 0) → (jobs : List Job)
-    → fitsInOrder jobs (keepNone jobs) ≡ true → ZeroKept jobs (chosenInOrderBy worth jobs)
+    → fitsInOrder jobs (keepNone jobs) ≡ true → ZeroKept jobs (chosenInOrderOver worth jobs)
 unfolding chosenByRows
 order-zero worth free jobs none =
     let huge = suc (lastDeadline jobs) in

@@ -7,14 +7,16 @@ use mathlib.Core.Bool.{true}
 use native.Mathlib.Omega.{arith}
 use Rattle.schedule.specs.declared.Job.{Job}
 use Rattle.schedule.specs.Ticks.{Owner}
-use Rattle.base.specs.Members.{All, Distinct}
-use Rattle.schedule.specs.Runnings.{Gets, Running}
+use Rattle.base.specs.Members.{All}
+use Rattle.base.specs.Arrays.{Distinct}
+use Rattle.schedule.specs.Runnings.{Gets, Running, Whole}
 use Rattle.base.proofs.MemberLaws.{all-map}
 use Rattle.schedule.specs.Jobs.{workWith}
-use Rattle.choice.specs.Choice.{total, worksOf, totalWork}
+use Rattle.choice.specs.Choice.{total, worksOf}
+use Rattle.choice.specs.KeepLists.{totalWork}
 use Rattle.placement.specs.Chains.{Between, positions}
 use Rattle.placement.proofs.Necessity.{isKept, marksOf, work-fits}
-use Rattle.sequence.specs.Similar.{NotAfter, Ordered, Similar}
+use Rattle.sequence.specs.Similar.{NotAfter, Ordered, SimilarJobs}
 use Rattle.sequence.specs.InOrder.{finish, fitsInOrder}
 use Rattle.sequence.proofs.InOrderLaws.{work-cases, ends-none, ends-some, time-none, time-some, order-cons}
 
@@ -48,7 +50,7 @@ from-zero jobs b a = all-map _ _ jobs (λ job l. (omega arith, l)) a
 -- after. Where work waits for a release, the job and the later ones share the ticks from there on; where it does not, the job joins the later ones.
 pub finish-later : (owner : Owner) (jobs later : List Job) (b : ℕ) → Ordered jobs → Distinct (positions jobs) → Distinct (positions later)
     → All (Before later) jobs → All (λ job. job .deadline ≤ b) jobs → All (λ job. job .deadline ≤ b) later
-    → All (Gets owner) jobs → All (Gets owner) later
+    → All (Gets Whole owner) jobs → All (Gets Whole owner) later
     → finish jobs (marksOf jobs owner) + totalWork later (marksOf later owner) ≤ b
 unfolding finish total worksOf
 finish-later owner [] later b o d e f a c g h = omega (arith, work-fits owner later 0 b e (from-zero later b c) h)
@@ -73,7 +75,7 @@ before-one job [] d o = tt
 before-one job (other ∷ jobs) d o = (((λ e. d .0 (sym e), o .0 .0), tt), before-one job jobs (d .1) (o .1))
 
 -- the marks read off fit
-marks-in-order : (owner : Owner) (jobs : List Job) → Ordered jobs → Distinct (positions jobs) → All (Gets owner) jobs
+marks-in-order : (owner : Owner) (jobs : List Job) → Ordered jobs → Distinct (positions jobs) → All (Gets Whole owner) jobs
     → fitsInOrder jobs (marksOf jobs owner) ≡ true
 unfolding fitsInOrder total worksOf
 marks-in-order owner [] o d g = refl
@@ -88,5 +90,5 @@ marks-in-order owner (job ∷ jobs) o d g =
     (marks-in-order owner jobs (o .1) (d .1) (g .1))
 
 -- Necessity: the marks read off a running of similar jobs fit in order.
-pub running-in-order : (jobs : List Job) (owner : Owner) → Similar jobs → Running jobs owner → fitsInOrder jobs (marksOf jobs owner) ≡ true
+pub running-in-order : (jobs : List Job) (owner : Owner) → SimilarJobs jobs → Running jobs owner → fitsInOrder jobs (marksOf jobs owner) ≡ true
 running-in-order jobs owner s r = marks-in-order owner jobs (s .ordered) (s .distinct) (r .gets)

@@ -12,7 +12,8 @@ use borrow.Author.Tests.{leb-true, leb-false, le-leb, lt-leb, lt-ltb}
 use Rattle.base.proofs.TestLaws.{both-absurd, pick-true, pick-false, pick-cases, picked}
 use Rattle.schedule.specs.declared.Job.{Job}
 use Rattle.schedule.specs.Jobs.{workWith}
-use Rattle.choice.specs.Choice.{discardMarks, keptWorth, ZeroKept}
+use Rattle.choice.specs.Choice.{discardMarks, keptWorth}
+use Rattle.choice.specs.KeepLists.{ZeroKept}
 use Rattle.choice.specs.Programme.{mandatorySum, allWorth}
 use Rattle.choice.proofs.LexLaws.{LexAtMost}
 use Rattle.choice.proofs.ProgrammeLaws.{greatest-is}

@@ -3,18 +3,18 @@ use mathlib.Core.Path.{_≡_, refl}
 use mathlib.Core.List.{[], _∷_}
 use mathlib.Core.Bool.{true, false}
 use Rattle.base.specs.Members.{All}
-use Rattle.choice.specs.Choice.{better, best, bestList, keepLists, keptTicks, lexLess, discardedWorth, countOne, discarded}
+use Rattle.choice.specs.Choice.{better, best, bestList, keepLists, keptWorth, keptTicks, lexLess, discardedWorth, countOne, discarded}
 use Rattle.choice.specs.Programme.{allWorth, greatest}
 use Rattle.choice.specs.ChoiceSamples.{job}
 use Rattle.placement.specs.Placing.{latestFirst}
 use Rattle.sequence.specs.InOrder.{endsAt, inTime, finish, fitsInOrder, placedInOrder, firstLate}
-use Rattle.sequence.specs.OrderChoice.{orderKey, chosenInOrderBy}
+use Rattle.sequence.specs.OrderChoice.{choiceKeyInOrder, chosenInOrderOver}
 use Rattle.sequence.specs.OrderRows.{ending, boundBefore, keepingEnd, discardingEnd, earliest, readBack, chosenByRows}
 use Rattle.sequence.specs.OrderSamples.{longerJobs, boundJobs, orderSamples, SampleHolds}
 
 -- The choice gives the marks and the runs of every sample.
 pub order-samples : All SampleHolds orderSamples
-unfolding endsAt inTime finish fitsInOrder placedInOrder latestFirst better best bestList orderKey chosenInOrderBy keepLists lexLess discardedWorth
+unfolding endsAt inTime finish fitsInOrder placedInOrder latestFirst better best bestList choiceKeyInOrder chosenInOrderOver keepLists lexLess discardedWorth
 order-samples = ((refl, refl), ((refl, refl), ((refl, refl), ((refl, refl), ((refl, refl), tt)))))
 
 -- So do the rows.
@@ -40,5 +40,5 @@ pub other-samples :
     × (discarded boundJobs (true ∷ false ∷ true ∷ []) ≡ discarded boundJobs (true ∷ true ∷ false ∷ []))
     × (finish boundJobs (true ∷ false ∷ true ∷ []) ≡ 3)
     × (finish boundJobs (true ∷ true ∷ false ∷ []) ≡ 5)
-unfolding endsAt inTime finish fitsInOrder discardedWorth keptTicks
+unfolding endsAt inTime finish fitsInOrder discardedWorth keptWorth
 other-samples = (refl, refl, refl, refl, refl, refl, refl, refl)

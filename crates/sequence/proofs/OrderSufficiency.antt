@@ -9,7 +9,7 @@ use native.Mathlib.Omega.{arith}
 use native.Mathlib.Decide.{decLt}
 use borrow.Author.Tests.{ne-eqb, eq-eqb}
 use Rattle.base.specs.Tests.{pick}
-use Rattle.base.specs.Members.{Distinct}
+use Rattle.base.specs.Arrays.{Distinct}
 use Rattle.base.proofs.TestLaws.{cases, both-absurd}
 use Rattle.base.proofs.MemberLaws.{all-map}
 use Rattle.schedule.specs.declared.Job.{Job}
@@ -24,9 +24,9 @@ use Rattle.choice.specs.Choice.{worksOf}
 use Rattle.placement.specs.Chains.{positions}
 use Rattle.placement.specs.Outcomes.{GetsWork}
 use Rattle.placement.proofs.Sufficiency.{Inside, absent, same-works}
-use Rattle.placement.proofs.Best.{all-may, marks-may}
+use Rattle.placement.proofs.PlacedRunnings.{all-may, marks-may}
 use Rattle.placement.proofs.RunOrder.{Listed, stretches-listed}
-use Rattle.sequence.specs.Similar.{Similar}
+use Rattle.sequence.specs.Similar.{SimilarJobs}
 use Rattle.sequence.specs.InOrder.{endsAt, finish, fitsInOrder, takesTick, placedInOrder, runsInOrder}
 use Rattle.sequence.specs.RunList.{runFrom}
 use Rattle.sequence.proofs.InOrderLaws.{work-cases, ends-some, ends-after, time-known, order-head, order-tail, order-length}
@@ -140,11 +140,11 @@ work-placed (job ∷ jobs) (keep ∷ keeps) d e =
     )
 
 -- Similar jobs under a list that fits. Each job gets its work under its mark;
-pub order-work : (jobs : List Job) (keeps : List Bool) → Similar jobs → fitsInOrder jobs keeps ≡ true → GetsWork jobs keeps (placedInOrder jobs keeps)
+pub order-work : (jobs : List Job) (keeps : List Bool) → SimilarJobs jobs → fitsInOrder jobs keeps ≡ true → GetsWork jobs keeps (placedInOrder jobs keeps)
 order-work jobs keeps s e = work-placed jobs keeps (s .distinct) e
 
 -- the placing is a running;
-pub order-running : (jobs : List Job) (keeps : List Bool) → Similar jobs → fitsInOrder jobs keeps ≡ true → Running jobs (placedInOrder jobs keeps)
+pub order-running : (jobs : List Job) (keeps : List Bool) → SimilarJobs jobs → fitsInOrder jobs keeps ≡ true → Running jobs (placedInOrder jobs keeps)
 order-running jobs keeps s e =
     record {
       inside = order-inside jobs keeps e;
@@ -152,6 +152,6 @@ order-running jobs keeps s e =
     }
 
 -- none of its runs is empty, they stand by start, and they say who has each tick.
-pub order-listed : (jobs : List Job) (keeps : List Bool) → Similar jobs → fitsInOrder jobs keeps ≡ true
+pub order-listed : (jobs : List Job) (keeps : List Bool) → SimilarJobs jobs → fitsInOrder jobs keeps ≡ true
     → Listed (placedInOrder jobs keeps) (runsInOrder jobs keeps)
 order-listed jobs keeps s e = stretches-listed (placedInOrder jobs keeps) (finish jobs keeps) (free-after jobs keeps)

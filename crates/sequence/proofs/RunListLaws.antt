@@ -7,7 +7,8 @@ use mathlib.Core.Bool.{Bool, true}
 use native.Mathlib.Omega.{arith}
 use lib.ListN.{length, length-reverse}
 use borrow.Author.Tests.{lt-ltb}
-use Rattle.base.specs.Members.{All, Any, Distinct}
+use Rattle.base.specs.Members.{All, Any}
+use Rattle.base.specs.Arrays.{Distinct}
 use Rattle.base.proofs.MemberLaws.{all-map, all-reverse}
 use Rattle.schedule.specs.declared.Job.{Job}
 use Rattle.schedule.specs.declared.Run.{Run}
@@ -16,7 +17,7 @@ use Rattle.schedule.proofs.RunLaws.{in-holds, before-holds}
 use Rattle.placement.specs.Chains.{positions}
 use Rattle.placement.specs.Placing.{stretches}
 use Rattle.placement.proofs.RunTicks.{Reads, Longest, reads-latest, reads-under}
-use Rattle.sequence.specs.Similar.{Similar}
+use Rattle.sequence.specs.Similar.{SimilarJobs}
 use Rattle.sequence.specs.InOrder.{finish, fitsInOrder, placedInOrder, runsInOrder}
 use Rattle.sequence.specs.RunList.{runFrom, withRun, latestRuns, listedRuns}
 use Rattle.sequence.proofs.InOrderLaws.{work-cases, ends-none, ends-some, time-known, order-head, order-tail, finish-by}
@@ -103,7 +104,7 @@ pub runs-listed-are : (jobs : List Job) (keeps : List Bool) → Distinct (positi
 runs-listed-are jobs keeps d = listed-stretches jobs keeps d (finish jobs keeps) (omega arith)
 
 -- They are the same below every tick that no deadline is after.
-pub order-longest : (jobs : List Job) (keeps : List Bool) → Similar jobs → fitsInOrder jobs keeps ≡ true → (b : ℕ) → All (λ job. job .deadline ≤ b) jobs
+pub order-longest : (jobs : List Job) (keeps : List Bool) → SimilarJobs jobs → fitsInOrder jobs keeps ≡ true → (b : ℕ) → All (λ job. job .deadline ≤ b) jobs
     → stretches (placedInOrder jobs keeps) b ≡ runsInOrder jobs keeps
 order-longest jobs keeps s e b a = listed-stretches jobs keeps (s .distinct) b (finish-by jobs keeps b e a) ∙ sym (runs-listed-are jobs keeps (s .distinct))
 
@@ -121,7 +122,7 @@ latest-few (job ∷ jobs) (keep ∷ keeps) =
     (λ p. rw (run-some job w time (latestRuns jobs keeps) p) (omega arith))
 
 -- There are no more runs than jobs.
-pub order-few : (jobs : List Job) (keeps : List Bool) → Similar jobs → length (runsInOrder jobs keeps) ≤ length jobs
+pub order-few : (jobs : List Job) (keeps : List Bool) → SimilarJobs jobs → length (runsInOrder jobs keeps) ≤ length jobs
 order-few jobs keeps s =
     rw (runs-listed-are jobs keeps (s .distinct)) (omega (arith, latest-few jobs keeps, length-reverse (latestRuns jobs keeps)))
 
@@ -146,6 +147,6 @@ latest-inside (job ∷ jobs) (keep ∷ keeps) e =
     rw (run-some job w time runs p) (inl (refl, omega arith, t), rest))
 
 -- Each run lies in the window of its job.
-pub order-windows : (jobs : List Job) (keeps : List Bool) → Similar jobs → fitsInOrder jobs keeps ≡ true → All (InWindowOf jobs) (runsInOrder jobs keeps)
+pub order-windows : (jobs : List Job) (keeps : List Bool) → SimilarJobs jobs → fitsInOrder jobs keeps ≡ true → All (InWindowOf jobs) (runsInOrder jobs keeps)
 order-windows jobs keeps s e =
     rw (runs-listed-are jobs keeps (s .distinct)) (all-reverse (InWindowOf jobs) (latestRuns jobs keeps) (latest-inside jobs keeps e))

@@ -9,14 +9,15 @@ use native.Mathlib.Omega.{arith}
 use borrow.Author.Tests.{lt-leb}
 use Rattle.schedule.specs.declared.Job.{Job}
 use Rattle.schedule.specs.Jobs.{workWith}
-use Rattle.schedule.specs.Shifting.{laterJob, laterJobs, laterRuns, LaterOwner}
+use Rattle.schedule.specs.Shifting.{laterRuns}
+use Rattle.schedule.specs.LaterJobs.{laterJob, laterJobs, LaterOwner}
 use Rattle.schedule.proofs.ShiftLaws.{leb-later, ltb-later}
 use Rattle.choice.specs.Choice.{keepNone, discardMarks, countOne}
 use Rattle.choice.proofs.ShiftLaws.{none-shift, discarded-shift, best-shift}
 use Rattle.placement.specs.Placing.{latestFirst, stretches}
 use Rattle.placement.proofs.ShiftLaws.{stretches-shift}
 use Rattle.sequence.specs.InOrder.{startsAt, endsAt, inTime, finish, fitsInOrder, placedInOrder, runsInOrder, firstLate}
-use Rattle.sequence.specs.OrderChoice.{orderKey, chosenInOrderBy, chosenInOrder}
+use Rattle.sequence.specs.OrderChoice.{choiceKeyInOrder, chosenInOrderOver, chosenInOrder}
 use Rattle.sequence.proofs.InOrderLaws.{work-cases, ends-none, ends-some}
 
 module _ (c : ℕ) where
@@ -68,10 +69,10 @@ module _ (c : ℕ) where
 
   -- The same list is chosen, where what a part is worth does not hang on the window,
   pub chosen-shift-by : (worth : Job → ℕ) → ((job : Job) → worth (laterJob c job) ≡ worth job) → (jobs : List Job)
-      → chosenInOrderBy worth (laterJobs c jobs) ≡ chosenInOrderBy worth jobs
-  unfolding chosenInOrderBy orderKey
+      → chosenInOrderOver worth (laterJobs c jobs) ≡ chosenInOrderOver worth jobs
+  unfolding chosenInOrderOver choiceKeyInOrder
   chosen-shift-by worth same jobs =
-      best-shift c (fitsInOrder jobs) (fitsInOrder (laterJobs c jobs)) (orderKey worth jobs) (orderKey worth (laterJobs c jobs)) (fits-shift jobs)
+      best-shift c (fitsInOrder jobs) (fitsInOrder (laterJobs c jobs)) (choiceKeyInOrder worth jobs) (choiceKeyInOrder worth (laterJobs c jobs)) (fits-shift jobs)
       (λ keeps. ap (λ (n : ℕ). n ∷ discardMarks keeps) (discarded-shift c worth same jobs keeps)) jobs
 
   -- as the planner's is.

@@ -9,14 +9,15 @@ use lib.ListN.{length, set, length-set, length-map, length-reverse}
 use Rattle.base.specs.Limits.{lastTick}
 use Rattle.base.specs.Places.{placesFrom, places}
 use Rattle.base.specs.Lent.{writtenFront}
-use Rattle.base.specs.Members.{Distinct}
+use Rattle.base.specs.Arrays.{Distinct}
 use Rattle.base.proofs.PlaceLaws.{left-start, left-step, left-end}
 use Rattle.base.proofs.TestLaws.{cases, both-absurd}
 use Rattle.base.proofs.ListLaws.{map-append}
 use Rattle.base.proofs.MemberLaws.{all-places}
 use Rattle.schedule.specs.declared.Job.{Job}
 use Rattle.schedule.specs.declared.Run.{Run}
-use Rattle.schedule.specs.Jobs.{Bounded, workWith}
+use Rattle.schedule.specs.Jobs.{workWith}
+use Rattle.schedule.specs.JobArrays.{Bounded}
 use Rattle.schedule.specs.Runs.{startsOf, endsOf, tasksOf}
 use Rattle.choice.specs.Decisions.{hugeTicks, jobsFrom}
 use Rattle.placement.specs.Chains.{positions}

@@ -1,8 +1,7 @@
 -- Running in order, each job as early as it can: when the work of jobs ends, which keep lists fit, who has each tick, where the runs lie, and which
 -- job is late. Jobs stand last first (similar order from its last to its first), and so do their marks.
-use Prim.Native.Nat.{ℕ, _+_, _<_, max}
-use mathlib.Core.Path.{_≡_}
-use mathlib.Core.List.{List, [], _∷_, _++_}
+use Prim.Native.Nat.{ℕ, _+_, max}
+use mathlib.Core.List.{List, [], _∷_}
 use mathlib.Core.Bool.{Bool, true, false}
 use mathlib.Core.Option.{none, some}
 use lib.Dec.{leb, ltb}
@@ -60,15 +59,3 @@ unfoldable pub firstLate : ℕ → List Job → ℕ
 firstLate n [] = n
 firstLate n (job ∷ jobs) =
     pick (ltb (firstLate n jobs) n) (firstLate n jobs) (pick (inTime job (job .mandatory) (finish jobs (keepNone jobs))) n (job .position))
-
--- The same as a statement: a place names the first late job. The mandatory ticks of the jobs before it fit, and its own, which are not 0, then end
--- after its deadline. What `firstLate` finds below n meets it, and nothing else does: the theorems `late-found` and `late-only`.
-pub record LateAt (jobs : List Job) (place : ℕ) : Type 0 where
-  pub after : List Job
-  pub late : Job
-  pub before : List Job
-  pub split : jobs ≡ after ++ late ∷ before
-  pub named : late .position ≡ place
-  pub fit : fitsInOrder before (keepNone before) ≡ true
-  pub nonzero : 0 < late .mandatory
-  pub over : late .deadline < startsAt late (finish before (keepNone before)) + late .mandatory

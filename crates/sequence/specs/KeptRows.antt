@@ -7,10 +7,10 @@ use mathlib.Core.Bool.{Bool, true}
 use lib.Dec.{leb, ltb}
 use lib.ListN.{length, getD}
 use Rattle.base.specs.Limits.{maxTasks}
-use Rattle.base.specs.Places.{firstPlaces}
 use Rattle.base.specs.Tests.{pick, and}
 use Rattle.schedule.specs.declared.Job.{Job}
-use Rattle.schedule.specs.Jobs.{noJob, counts, workWith}
+use Rattle.schedule.specs.Jobs.{counts, workWith}
+use Rattle.schedule.specs.JobArrays.{noJob, jobsIn}
 use Rattle.choice.specs.Choice.{countOne}
 use Rattle.choice.specs.Programme.{mandatorySum, allWorth}
 use Rattle.choice.specs.Decisions.{rowPlaces, hugeTicks, jobsFrom}
@@ -100,13 +100,13 @@ abbrev pub RowPut : ((ℕ → ℕ) → ℕ → ℕ) → ℕ → ℕ → List ℕ
 RowPut next most at before after = Rewritten 0 (next (numbersFrom before (at + rowPlaces))) at 0 (most + 1) before after
 
 -- the rows of the first `count` of some jobs, the most parts that a list that fits keeps, and all mandatory ticks
-pub record RowsPut (jobs : List Job) (count : ℕ) (rows : List ℕ) (most mandatory : ℕ) : Type 0 where
+pub record RowsInPlace (jobs : List Job) (count : ℕ) (rows : List ℕ) (most mandatory : ℕ) : Type 0 where
   pub room : RoomFor count (length rows)
   pub rows-kept : RowsKept (λ k. getD jobs k noJob) count 0 rows
-  pub most-is : most ≡ mostWorth countOne hugeTicks (firstPlaces noJob jobs count)
+  pub most-is : most ≡ mostWorth countOne hugeTicks (jobsIn jobs count)
   pub most-within : most ≤ count
-  pub mandatory-is : mandatory ≡ mandatorySum (firstPlaces noJob jobs count)
+  pub mandatory-is : mandatory ≡ mandatorySum (jobsIn jobs count)
 
 -- the number of the optional parts above 0 ticks of the first `count` of some jobs
 abbrev pub PartsOf : List Job → ℕ → ℕ → Type 0
-PartsOf jobs count parts = (parts ≡ allWorth countOne (firstPlaces noJob jobs count)) × (parts ≤ count)
+PartsOf jobs count parts = (parts ≡ allWorth countOne (jobsIn jobs count)) × (parts ≤ count)

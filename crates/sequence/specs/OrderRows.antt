@@ -1,6 +1,6 @@
--- For the proofs of sequencing's code alone: the choice for similar jobs by dynamic programming, as the code computes it: one row of numbers a job,
--- from the first job in similar order to the last, and the marks read back from the last job to the first with a bound, the latest time by which the
--- jobs before must have ended. Jobs stand last first.
+-- For the proofs of sequencing's code alone: the choice for similar jobs by dynamic programming: one row of numbers a job, from the first job in similar
+-- order to the last, and the marks read back from the last job to the first with a bound, the latest time by which the jobs before must have ended. Jobs
+-- stand last first. What the code holds of it is said in KeptRows.
 use Prim.Native.Nat.{ℕ, zero, suc, _-_, min}
 use mathlib.Core.List.{List, [], _∷_}
 use mathlib.Core.Bool.{Bool, true, false}

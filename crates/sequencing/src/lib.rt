@@ -9,33 +9,33 @@ ghost use mathlib.Core.Bool.{true, false};
 ghost use Prim.Native.Nat.{ℕ, _+_, _-_, _*_, _≤_, _<_, min, max};
 ghost use lib.ListN.{length, getD};
 ghost use Rattle.base.specs.Limits.{maxTasks, maxTicks};
-ghost use Rattle.base.specs.Places.{firstPlaces};
-ghost use Rattle.base.specs.Members.{Distinct};
+ghost use Rattle.base.specs.Arrays.{Distinct};
 ghost use Rattle.base.specs.Tests.{pick};
-ghost use Rattle.schedule.specs.Jobs.{noJob, Bounded};
-ghost use Rattle.choice.specs.Choice.{keepNone, ChosenFor};
+ghost use Rattle.choice.specs.KeepLists.{keepsIn, ChosenFor};
+ghost use Rattle.choice.specs.Choice.{keepNone};
+ghost use Rattle.schedule.specs.JobArrays.{noJob, Bounded, jobsIn, AllBounded};
 ghost use Rattle.choice.specs.Programme.{mandatorySum, greatest};
 ghost use Rattle.choice.specs.Decisions.{rowPlaces, hugeTicks};
 ghost use Rattle.placement.specs.Chains.{positions};
-ghost use Rattle.placement.specs.HeldRuns.{FrontsWritten};
+ghost use Rattle.placement.specs.HeldRuns.{RunsPut};
 ghost use Rattle.sequence.specs.InOrder.{fitsInOrder, firstLate, runsInOrder};
 ghost use Rattle.sequence.specs.OrderChoice.{chosenInOrder};
 ghost use Rattle.sequence.specs.OrderRows.{ending};
-ghost use Rattle.sequence.specs.KeptRows.{allRowPlaces, sameMarks, earliestOf, marksBack, numbersFrom, RoomFor, Blank, RowsKept, RowPut, RowsPut, PartsOf};
+ghost use Rattle.sequence.specs.KeptRows.{allRowPlaces, sameMarks, earliestOf, marksBack, numbersFrom, RoomFor, Blank, RowsKept, RowPut, RowsInPlace, PartsOf};
 ghost use Rattle.sequence.specs.KeptRows.{limitedEnd, freeFrom, freeRoom, rowWithout, rowWith, nextRow, keptBeside, boundBeside};
 use base::MAX_TASKS;
 use choosing::Choice;
 use choosing::HUGE;
-use choosing::PLACES;
+use choosing::ROW_PLACES;
 use schedule::Job;
 
-// The places of all rows: one row for each job, and that of no job. The row of the jobs from place k on stands from place PLACES * k on.
-const ALL_PLACES: usize = PLACES * (MAX_TASKS + 1);
+// The places of all rows: one row for each job, and that of no job. The row of the jobs from place k on stands from place ROW_PLACES * k on.
+const ALL_PLACES: usize = ROW_PLACES * (MAX_TASKS + 1);
 
 // The same for few jobs, and how many these are.
 const FEW: usize = 16;
 
-const FEW_PLACES: usize = PLACES * (FEW + 1);
+const FEW_PLACES: usize = ROW_PLACES * (FEW + 1);
 
 // What a job asks of a time in a row: nothing of it starts before `from`, and nothing that ends later than `room` is in time.
 struct TimeLimits {
@@ -132,7 +132,7 @@ fn row_without(rows: &mut [u32], at: usize, free: TimeLimits, most: usize)
     requires { ⌜ ((k : ℕ) → k ≤ most → getD (now rows) (at + rowPlaces + k) 0 ≤ hugeTicks) ⌝ }
     ensures { λ _. ⌜ RowPut (rowWithout (free .from) (free .room)) most at (now (rows .entry)) (now (rows .exit)) ⌝ }
 {
-    let from = at + PLACES;
+    let from = at + ROW_PLACES;
     let mut v: usize = 0;
     while v <= most {
         let before = rows[from + v];
@@ -157,7 +157,7 @@ fn row_with(
     requires { ⌜ ((k : ℕ) → k ≤ most → getD (now rows) (at + rowPlaces + k) 0 ≤ hugeTicks) ⌝ }
     ensures { λ _. ⌜ RowPut (rowWith optional (kept .from) (kept .room) (free .from) (free .room)) most at (now (rows .entry)) (now (rows .exit)) ⌝ }
 {
-    let from = at + PLACES;
+    let from = at + ROW_PLACES;
     let mut v: usize = 0;
     while v < most {
         let next = v + 1;
@@ -196,13 +196,13 @@ fn next_row(rows: &mut [u32], at: usize, job: Job, kept: TimeLimits, most: usize
 // up once a job, and no number is made beyond the most parts of the jobs before and the job's own: a row is huge there.
 fn rows_of(jobs: [Job; MAX_TASKS], count: usize, rows: &mut [u32]) -> Counts
     requires { ⌜ count ≤ maxTasks ⌝ }
-    requires { ⌜ ((k : ℕ) → k < count → Bounded (getD jobs k noJob)) ⌝ }
+    requires { ⌜ AllBounded jobs count ⌝ }
     requires { ⌜ RoomFor count (length (now rows)) ⌝ }
     requires { ⌜ Blank (now rows) ⌝ }
-    requires { ⌜ fitsInOrder (firstPlaces noJob jobs count) (keepNone (firstPlaces noJob jobs count)) ≡ true ⌝ }
-    ensures { λ r. ⌜ RowsPut jobs count (now (rows .exit)) (r .most) (r .mandatory) ⌝ }
+    requires { ⌜ fitsInOrder (jobsIn jobs count) (keepNone (jobsIn jobs count)) ≡ true ⌝ }
+    ensures { λ r. ⌜ RowsInPlace jobs count (now (rows .exit)) (r .most) (r .mandatory) ⌝ }
 {
-    rows[PLACES * count] = 0;
+    rows[ROW_PLACES * count] = 0;
     let mut most: usize = 0;
     let mut mandatory: u32 = 0;
     let mut i = count;
@@ -216,7 +216,7 @@ fn rows_of(jobs: [Job; MAX_TASKS], count: usize, rows: &mut [u32]) -> Counts
         let part = choosing::worth(job);
         most = next_row(
             rows,
-            PLACES * i,
+            ROW_PLACES * i,
             job,
             TimeLimits { from, room },
             most + part,
@@ -278,12 +278,12 @@ fn read_back(
 ) -> [bool; MAX_TASKS]
     requires { ⌜ count ≤ maxTasks ⌝ }
     requires { ⌜ most ≤ count ⌝ }
-    requires { ⌜ ((k : ℕ) → k < count → Bounded (getD jobs k noJob)) ⌝ }
+    requires { ⌜ AllBounded jobs count ⌝ }
     requires { ⌜ RoomFor count (length (now rows)) ⌝ }
     requires { ⌜ RowsKept (λ k. getD jobs k noJob) count 0 (now rows) ⌝ }
-    requires { ⌜ mandatory ≡ mandatorySum (firstPlaces noJob jobs count) ⌝ }
-    requires { ⌜ earliestOf (firstPlaces noJob jobs count) most < hugeTicks ⌝ }
-    ensures { λ r. ⌜ firstPlaces false r count ≡ marksBack (firstPlaces noJob jobs count) most ⌝ }
+    requires { ⌜ mandatory ≡ mandatorySum (jobsIn jobs count) ⌝ }
+    requires { ⌜ earliestOf (jobsIn jobs count) most < hugeTicks ⌝ }
+    ensures { λ r. ⌜ keepsIn r count ≡ marksBack (jobsIn jobs count) most ⌝ }
 {
     let mut keeps = [false; MAX_TASKS];
     let mut v = most;
@@ -295,7 +295,13 @@ fn read_back(
         let room = lesser(minus(job.deadline, left), bound);
         left -= job.mandatory;
         let from = minus(job.release, left);
-        let keep = is_kept(rows, PLACES * (i + 1), job, TimeLimits { from, room }, v);
+        let keep = is_kept(
+            rows,
+            ROW_PLACES * (i + 1),
+            job,
+            TimeLimits { from, room },
+            v,
+        );
         keeps[i] = keep;
         bound = bound_before(job, keep, room, bound);
         if keep {
@@ -324,8 +330,8 @@ fn parts_of(jobs: [Job; MAX_TASKS], count: usize) -> usize
 // Whether all work ends in time where every part is kept.
 fn all_fit(jobs: [Job; MAX_TASKS], count: usize) -> bool
     requires { ⌜ count ≤ maxTasks ⌝ }
-    requires { ⌜ ((k : ℕ) → k < count → Bounded (getD jobs k noJob)) ⌝ }
-    ensures { λ r. ⌜ r ≡ fitsInOrder (firstPlaces noJob jobs count) (sameMarks true (firstPlaces noJob jobs count)) ⌝ }
+    requires { ⌜ AllBounded jobs count ⌝ }
+    ensures { λ r. ⌜ r ≡ fitsInOrder (jobsIn jobs count) (sameMarks true (jobsIn jobs count)) ⌝ }
 {
     let mut time: u32 = 0;
     let mut i = count;
@@ -345,12 +351,12 @@ fn all_fit(jobs: [Job; MAX_TASKS], count: usize) -> bool
 // The choice by rows, which stand in a lent list that is huge throughout. `parts` is the number of all parts above 0 ticks.
 fn choose_in(jobs: [Job; MAX_TASKS], count: usize, parts: usize, rows: &mut [u32]) -> Choice
     requires { ⌜ count ≤ maxTasks ⌝ }
-    requires { ⌜ ((k : ℕ) → k < count → Bounded (getD jobs k noJob)) ⌝ }
-    requires { ⌜ fitsInOrder (firstPlaces noJob jobs count) (keepNone (firstPlaces noJob jobs count)) ≡ true ⌝ }
+    requires { ⌜ AllBounded jobs count ⌝ }
+    requires { ⌜ fitsInOrder (jobsIn jobs count) (keepNone (jobsIn jobs count)) ≡ true ⌝ }
     requires { ⌜ PartsOf jobs count parts ⌝ }
     requires { ⌜ RoomFor count (length (now rows)) ⌝ }
     requires { ⌜ Blank (now rows) ⌝ }
-    ensures { λ r. ⌜ ChosenFor (chosenInOrder (firstPlaces noJob jobs count)) (firstPlaces noJob jobs count) (firstPlaces false (r .keeps) count) (r .kept) (r .discarded) ⌝ }
+    ensures { λ r. ⌜ ChosenFor chosenInOrder (jobsIn jobs count) (keepsIn (r .keeps) count) (r .kept) (r .discarded) ⌝ }
 {
     let counts = rows_of(jobs, count, rows);
     let most = counts.most;
@@ -362,13 +368,13 @@ fn choose_in(jobs: [Job; MAX_TASKS], count: usize, parts: usize, rows: &mut [u32
     }
 }
 
-// The same in a list of its own, which is cleared: one for few jobs, since to clear the one for all takes longer than to fill their rows.
+// The same in a list of its own, which is HUGE throughout: a short one for few jobs, since to fill the one for all takes longer than to make their rows.
 fn choose_by_rows(jobs: [Job; MAX_TASKS], count: usize, parts: usize) -> Choice
     requires { ⌜ count ≤ maxTasks ⌝ }
-    requires { ⌜ ((k : ℕ) → k < count → Bounded (getD jobs k noJob)) ⌝ }
-    requires { ⌜ fitsInOrder (firstPlaces noJob jobs count) (keepNone (firstPlaces noJob jobs count)) ≡ true ⌝ }
+    requires { ⌜ AllBounded jobs count ⌝ }
+    requires { ⌜ fitsInOrder (jobsIn jobs count) (keepNone (jobsIn jobs count)) ≡ true ⌝ }
     requires { ⌜ PartsOf jobs count parts ⌝ }
-    ensures { λ r. ⌜ ChosenFor (chosenInOrder (firstPlaces noJob jobs count)) (firstPlaces noJob jobs count) (firstPlaces false (r .keeps) count) (r .kept) (r .discarded) ⌝ }
+    ensures { λ r. ⌜ ChosenFor chosenInOrder (jobsIn jobs count) (keepsIn (r .keeps) count) (r .kept) (r .discarded) ⌝ }
 {
     if count <= FEW {
         let mut rows = [HUGE; FEW_PLACES];
@@ -381,9 +387,9 @@ fn choose_by_rows(jobs: [Job; MAX_TASKS], count: usize, parts: usize) -> Choice
 // The keep list of the similar jobs that stand last first at the first `count` places. Where every part can be kept, no row is made.
 pub fn choose(jobs: [Job; MAX_TASKS], count: usize) -> Choice
     requires { ⌜ count ≤ maxTasks ⌝ }
-    requires { ⌜ ((k : ℕ) → k < count → Bounded (getD jobs k noJob)) ⌝ }
-    requires { ⌜ fitsInOrder (firstPlaces noJob jobs count) (keepNone (firstPlaces noJob jobs count)) ≡ true ⌝ }
-    ensures { λ r. ⌜ ChosenFor (chosenInOrder (firstPlaces noJob jobs count)) (firstPlaces noJob jobs count) (firstPlaces false (r .keeps) count) (r .kept) (r .discarded) ⌝ }
+    requires { ⌜ AllBounded jobs count ⌝ }
+    requires { ⌜ fitsInOrder (jobsIn jobs count) (keepNone (jobsIn jobs count)) ≡ true ⌝ }
+    ensures { λ r. ⌜ ChosenFor chosenInOrder (jobsIn jobs count) (keepsIn (r .keeps) count) (r .kept) (r .discarded) ⌝ }
 {
     let parts = parts_of(jobs, count);
     if all_fit(jobs, count) {
@@ -400,9 +406,9 @@ pub fn choose(jobs: [Job; MAX_TASKS], count: usize) -> Choice
 // where there is none. The jobs stand last first at the first `count` places.
 pub fn first_late(jobs: [Job; MAX_TASKS], count: usize) -> usize
     requires { ⌜ count ≤ maxTasks ⌝ }
-    requires { ⌜ ((k : ℕ) → k < count → Bounded (getD jobs k noJob)) ⌝ }
+    requires { ⌜ AllBounded jobs count ⌝ }
     requires { ⌜ ((k : ℕ) → k < count → getD jobs k noJob .position < count) ⌝ }
-    ensures { λ r. ⌜ r ≡ firstLate count (firstPlaces noJob jobs count) ⌝ }
+    ensures { λ r. ⌜ r ≡ firstLate count (jobsIn jobs count) ⌝ }
 {
     let mut time: u32 = 0;
     let mut i = count;
@@ -429,13 +435,12 @@ pub fn place(
     tasks: &mut [u32],
 ) -> usize
     requires { ⌜ count ≤ maxTasks ⌝ }
-    requires { ⌜ ((k : ℕ) → k < count → Bounded (getD jobs k noJob)) ⌝ }
-    requires { ⌜ Distinct (positions (firstPlaces noJob jobs count)) ⌝ }
-    requires { ⌜ fitsInOrder (firstPlaces noJob jobs count) (firstPlaces false keeps count) ≡ true ⌝ }
+    requires { ⌜ AllBounded jobs count ⌝ }
+    requires { ⌜ Distinct (positions (jobsIn jobs count)) ⌝ }
+    requires { ⌜ fitsInOrder (jobsIn jobs count) (keepsIn keeps count) ≡ true ⌝ }
     requires { ⌜ (count ≤ length (now starts)) × (count ≤ length (now ends)) × (count ≤ length (now tasks)) ⌝ }
-    ensures { λ r. ⌜ r ≡ length (runsInOrder (firstPlaces noJob jobs count) (firstPlaces false keeps count)) ⌝ }
-    ensures { λ r. ⌜ FrontsWritten (runsInOrder (firstPlaces noJob jobs count) (firstPlaces false keeps count))
-        (now (starts .entry)) (now (ends .entry)) (now (tasks .entry)) (now (starts .exit)) (now (ends .exit)) (now (tasks .exit)) ⌝ }
+    ensures { λ r. ⌜ r ≡ length (runsInOrder (jobsIn jobs count) (keepsIn keeps count)) ⌝ }
+    ensures { λ r. ⌜ RunsPut (runsInOrder (jobsIn jobs count) (keepsIn keeps count)) starts ends tasks ⌝ }
 {
     let mut time: u32 = 0;
     let mut runs: usize = 0;

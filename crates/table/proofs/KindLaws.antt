@@ -1,12 +1,12 @@
--- Laws of the kinds of tables: pairs of tasks, the place of refusal 7, and what accepted windows tell. Assumes nothing.
+-- Laws of the kinds of tables: pairs of tasks, the place of refusal 7, and what accepted windows tell.
 use Prim.Native.Nat.{ℕ, suc, _-_, _≤_, _<_, max}
 use mathlib.Core.Path.{_≡_, refl, sym, ap, ap₂, _∙_}
 use mathlib.Core.Logic.{_⊎_, inl, inr, ⊎-elim, _≢_}
-use mathlib.Core.Bool.{Bool, true, false, not}
+use mathlib.Core.Bool.{Bool, true, false, not, Bool·not-not}
 use native.Mathlib.Omega.{arith}
 use native.Mathlib.Decide.{decLe, decLt}
 use lib.Dec.{leb}
-use borrow.Author.Tests.{ltb-false, lt-ltb, le-ltb, le-leb, lt-leb, not-true, not-false}
+use borrow.Author.Tests.{ltb-false, le-ltb, le-leb, lt-leb, not-true, not-false}
 use Rattle.base.specs.Tests.{and, or}
 use Rattle.base.specs.Lowest.{lowest, someBelow}
 use Rattle.base.proofs.TestLaws.{cases, both-absurd, and-true, and-left, and-right, or-first, or-second}
@@ -22,10 +22,10 @@ use Rattle.table.specs.Kinds.{
   isNested,
   isSimilar,
   ofNeitherKind,
-  forwardAnswer,
+  badWindowAnswer,
   kindAnswer,
   windowsAnswer,
-  windowAnswer,
+  tableWindowsAnswer,
 }
 use Rattle.table.specs.WindowColumns.{greatestNumber}
 use Rattle.table.specs.Writing.{Legal}
@@ -123,22 +123,13 @@ unfolding pairwise
 pairs-alike p q f g n h =
     ap not (some-same (failsEarlier p f) (failsEarlier q g) n (λ k l. fails-alike p q f g k (λ j m. h j k m l)))
 
--- Tasks that agree below n pass a test of pairs alike.
-pub pairs-same : (pair : Task → Task → Bool) (f g : ℕ → Task) (n : ℕ) → ((k : ℕ) → k < n → f k ≡ g k) → pairwise pair f n ≡ pairwise pair g n
-pairs-same pair f g n h = pairs-alike pair pair f g n (λ j k l m. ap₂ pair (h j (omega arith)) (h k m))
-
--- A test that is denied twice.
-not-twice : (b : Bool) → not (not b) ≡ b
-not-twice true = refl
-not-twice false = refl
-
 -- The place of refusal 7: the higher of the first position that is not nested with some earlier one and the first that is not similar to some earlier
 -- one; it is n, and nothing is refused, where there is no such position for one of the two.
 pub neither-place : (at : ℕ → Task) (n : ℕ) → lowest (ofNeitherKind at) n ≡ max (lowest (failsEarlier nested at) n) (lowest (failsEarlier similar at) n)
 unfolding ofNeitherKind pairwise
 neither-place at n =
     lowest-both (failsEarlier nested at) (failsEarlier similar at) (ofNeitherKind at) n (λ k l.
-    ap₂ and (not-twice (someBelow (failsEarlier nested at) (suc k))) (not-twice (someBelow (failsEarlier similar at) (suc k))))
+    ap₂ and (Bool·not-not (someBelow (failsEarlier nested at) (suc k))) (Bool·not-not (someBelow (failsEarlier similar at) (suc k))))
 
 -- So it is the higher of the two where they are known.
 pub neither-higher : (at : ℕ → Task) (n crossing dissimilar higher : ℕ) → crossing ≡ lowest (failsEarlier nested at) n → dissimilar ≡ lowest (failsEarlier similar at) n
@@ -158,13 +149,9 @@ found-pairs : (pair : Task → Task → Bool) (at : ℕ → Task) (n : ℕ) → 
 unfolding pairwise someBelow
 found-pairs pair at n e = ltb-false (lowest (failsEarlier pair at) n) n (not-true (someBelow (failsEarlier pair at) n) e)
 
--- By the first task that is not nested with some earlier one, where it is known,
+-- They are nested where the first task that is not nested with some earlier one, which is known, lies beyond them.
 pub nested-found : (at : ℕ → Task) (n crossing : ℕ) → crossing ≡ lowest (failsEarlier nested at) n → n ≤ crossing → pairwise nested at n ≡ true
 nested-found at n crossing e l = pairs-found nested at n (omega arith)
-
-pub nested-broken : (at : ℕ → Task) (n crossing : ℕ) → crossing ≡ lowest (failsEarlier nested at) n → crossing < n → pairwise nested at n ≡ false
-unfolding pairwise someBelow
-nested-broken at n crossing e l = ap not (lt-ltb (lowest (failsEarlier nested at) n) n (omega arith))
 
 -- Tasks to which 7 is not sent are of one kind or the other.
 pub kind-known : (at : ℕ → Task) (n : ℕ) → kindAnswer at n ≡ Accepted → (pairwise nested at n ≡ true) ⊎ (pairwise similar at n ≡ true)
@@ -191,7 +178,7 @@ nested-accepted t e = kind-test (taskAt t) (t .count) (inl e)
 
 -- The windows of two runs of tasks stand alike below n: the same are bad, and the same two are nested, and similar.
 pub record Alike (f g : ℕ → Task) (n : ℕ) : Type 0 where
-  pub forward : (k : ℕ) → k < n → badWindow (f k) ≡ badWindow (g k)
+  pub bad : (k : ℕ) → k < n → badWindow (f k) ≡ badWindow (g k)
   pub nesting : (j k : ℕ) → j < k → k < n → nested (f j) (f k) ≡ nested (g j) (g k)
   pub similarity : (j k : ℕ) → j < k → k < n → similar (f j) (f k) ≡ similar (g j) (g k)
 
@@ -200,15 +187,15 @@ pub frames-alike : (f g : ℕ → Task) (n : ℕ) → ((k : ℕ) → k < n → (
 unfolding badWindow nested contains similar noLater
 frames-alike f g n h =
     record {
-      forward = λ k l. rw (h k l .0, h k l .1);
+      bad = λ k l. rw (h k l .0, h k l .1);
       nesting = λ j k l m. let i : j < n = omega arith in rw (h j i .0, h j i .1, h k m .0, h k m .1);
       similarity = λ j k l m. let i : j < n = omega arith in rw (h j i .0, h j i .1, h k m .0, h k m .1);
     }
 
 -- Where they stand alike, 6 is sent to both or to neither, with the same place,
-pub forward-alike : {f g : ℕ → Task} {n : ℕ} → Alike f g n → forwardAnswer f n ≡ forwardAnswer g n
-unfolding forwardAnswer
-forward-alike {f} {g} {n} a = refused-same Window (λ k. badWindow (f k)) (λ k. badWindow (g k)) n (a .forward)
+pub bad-window-alike : {f g : ℕ → Task} {n : ℕ} → Alike f g n → badWindowAnswer f n ≡ badWindowAnswer g n
+unfolding badWindowAnswer
+bad-window-alike {f} {g} {n} a = refused-same Window (λ k. badWindow (f k)) (λ k. badWindow (g k)) n (a .bad)
 
 -- and so is 7,
 pub kind-alike : {f g : ℕ → Task} {n : ℕ} → Alike f g n → kindAnswer f n ≡ kindAnswer g n
@@ -222,61 +209,48 @@ kind-alike {f} {g} {n} a =
 -- and so they are answered alike.
 pub windows-alike : {f g : ℕ → Task} {n : ℕ} → Alike f g n → windowsAnswer f n ≡ windowsAnswer g n
 unfolding windowsAnswer
-windows-alike a = rw (forward-alike a, kind-alike a)
+windows-alike a = rw (bad-window-alike a, kind-alike a)
 
 -- Tables that are the same have windows that stand alike,
 same-alike : {a b : Table} → Same a b → Alike (taskAt a) (taskAt b) (a .count)
 same-alike {a} {b} s =
     frames-alike (taskAt a) (taskAt b) (a .count) (λ k l. (ap (λ (x : Task). x .release) (s .tasks k l), ap (λ (x : Task). x .deadline) (s .tasks k l)))
 
--- and so they are of the same kinds,
-pub isNested-same : {a b : Table} → Same a b → isNested a ≡ isNested b
-unfolding isNested
-isNested-same {a} {b} s = pairs-same nested (taskAt a) (taskAt b) (a .count) (s .tasks) ∙ ap (pairwise nested (taskAt b)) (s .count)
-
-pub isSimilar-same : {a b : Table} → Same a b → isSimilar a ≡ isSimilar b
-unfolding isSimilar
-isSimilar-same {a} {b} s = pairs-same similar (taskAt a) (taskAt b) (a .count) (s .tasks) ∙ ap (pairwise similar (taskAt b)) (s .count)
-
--- and 7 is sent to both or to neither, with the same place,
-pub kind-same : {a b : Table} → Same a b → kindAnswer (taskAt a) (a .count) ≡ kindAnswer (taskAt b) (b .count)
-kind-same {a} {b} s = kind-alike (same-alike s) ∙ ap (kindAnswer (taskAt b)) (s .count)
-
--- and their windows are answered alike.
-pub window-same : {a b : Table} → Same a b → windowAnswer a ≡ windowAnswer b
-unfolding windowAnswer
+-- and so they are answered alike.
+pub window-same : {a b : Table} → Same a b → tableWindowsAnswer a ≡ tableWindowsAnswer b
+unfolding tableWindowsAnswer
 window-same {a} {b} s = windows-alike (same-alike s) ∙ ap (windowsAnswer (taskAt b)) (s .count)
 
 -- What the windows tell when they are accepted: none is bad, and the table is nested or similar.
 pub record WindowsKnown (t : Table) : Type 0 where
-  pub forward : (k : ℕ) → k < t .count → badWindow (taskAt t k) ≡ false
+  pub good : (k : ℕ) → k < t .count → badWindow (taskAt t k) ≡ false
   pub kind : (isNested t ≡ true) ⊎ (isSimilar t ≡ true)
 
 -- Windows that are accepted are so.
-pub window-known : (t : Table) → windowAnswer t ≡ Accepted → WindowsKnown t
-unfolding windowAnswer windowsAnswer forwardAnswer isNested isSimilar
+pub window-known : (t : Table) → tableWindowsAnswer t ≡ Accepted → WindowsKnown t
+unfolding tableWindowsAnswer windowsAnswer badWindowAnswer isNested isSimilar
 window-known t e =
-    let z = firstRefusal-known (forwardAnswer (taskAt t) (t .count)) (kindAnswer (taskAt t) (t .count)) e in
+    let z = firstRefusal-known (badWindowAnswer (taskAt t) (t .count)) (kindAnswer (taskAt t) (t .count)) e in
     record {
-      forward = refused-none Window (λ k. refl) (λ k. badWindow (taskAt t k)) (t .count) (z .0);
+      good = refused-none Window (λ k. refl) (λ k. badWindow (taskAt t k)) (t .count) (z .0);
       kind = kind-known (taskAt t) (t .count) (z .1);
     }
 
 -- Windows of which that holds are accepted.
-pub window-test : (t : Table) → WindowsKnown t → windowAnswer t ≡ Accepted
-unfolding windowAnswer windowsAnswer forwardAnswer isNested isSimilar
+pub window-test : (t : Table) → WindowsKnown t → tableWindowsAnswer t ≡ Accepted
+unfolding tableWindowsAnswer windowsAnswer badWindowAnswer isNested isSimilar
 window-test t w =
-    firstRefusal-test (forwardAnswer (taskAt t) (t .count)) (kindAnswer (taskAt t) (t .count))
-    (none-refused Window (λ k. badWindow (taskAt t k)) (t .count) (w .forward))
+    firstRefusal-test (badWindowAnswer (taskAt t) (t .count)) (kindAnswer (taskAt t) (t .count))
+    (none-refused Window (λ k. badWindow (taskAt t k)) (t .count) (w .good))
     (kind-test (taskAt t) (t .count) (w .kind))
 
 -- A table whose windows are accepted and that is not nested is similar.
-pub similar-where : (t : Table) → windowAnswer t ≡ Accepted → isNested t ≡ false → isSimilar t ≡ true
+pub similar-where : (t : Table) → tableWindowsAnswer t ≡ Accepted → isNested t ≡ false → isSimilar t ≡ true
 similar-where t e n = ⊎-elim (λ i. both-absurd (isNested t) i n) (λ i. i) (window-known t e .kind)
 
 -- The window at a position of a legal table is not bad.
-pub legal-forward : (t : Table) → Legal t → (k : ℕ) → k < t .count → badWindow (taskAt t k) ≡ false
-legal-forward t l = window-known t (l .windows) .forward
+pub legal-windows : (t : Table) → Legal t → (k : ℕ) → k < t .count → badWindow (taskAt t k) ≡ false
+legal-windows t l = window-known t (l .windows) .good
 
 -- A legal table that is not nested is similar.
 pub legal-similar : (t : Table) → Legal t → isNested t ≡ false → isSimilar t ≡ true

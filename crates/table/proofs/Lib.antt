@@ -6,5 +6,6 @@ pub mod RowFiles
 pub mod RowTables
 pub mod FileLaws
 pub mod RoundTrip
+pub mod MovedTables
 pub mod PrefixLaws
 pub mod ContentLaws

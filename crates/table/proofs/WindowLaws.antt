@@ -9,14 +9,14 @@ use Rattle.base.proofs.LowestLaws.{same}
 use Rattle.table.specs.declared.Table.{Table}
 use Rattle.table.specs.Tables.{taskAt}
 use Rattle.table.specs.Windows.{nested, similar}
-use Rattle.table.specs.Kinds.{failsEarlier, windowsAnswer, windowAnswer}
+use Rattle.table.specs.Kinds.{failsEarlier, windowsAnswer, tableWindowsAnswer}
 use Rattle.table.specs.WindowColumns.{windowAt, FramesOf, greatestNumber, Mirrored}
 use Rattle.table.proofs.KindLaws.{MirroredWindow, similar-mirrored, fails-alike, frames-alike, windows-alike}
 
 -- Where two columns hold the frames of a table's tasks, what the windows of the columns answer is what those of the table answer.
 pub answer-columns : (t : Table) (releases deadlines : List ℕ) → FramesOf (taskAt t) (t .count) releases deadlines
-    → windowsAnswer (windowAt releases deadlines) (t .count) ≡ windowAnswer t
-unfolding windowAnswer
+    → windowsAnswer (windowAt releases deadlines) (t .count) ≡ tableWindowsAnswer t
+unfolding tableWindowsAnswer
 answer-columns t releases deadlines frames = windows-alike (frames-alike (windowAt releases deadlines) (taskAt t) (t .count) frames)
 
 -- The first window that is not similar to some earlier one is the first that is not nested with some earlier one where the deadlines are mirrored.

@@ -1,4 +1,5 @@
--- What reading answers, as document 01's table of refusals has it: for each case the number and the place.
+-- What reading answers, as document 01's table of refusals has it, 7 as request 1 has it: for each case the number and the place. And the reply that reports
+-- bytes written.
 use Prim.Native.Nat.{ℕ}
 use mathlib.Core.Bool.{Bool, true, false}
 use lib.Dec.{ltb}

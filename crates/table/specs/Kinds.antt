@@ -32,8 +32,8 @@ unfoldable pub ofNeitherKind : (ℕ → Task) → ℕ → Bool
 ofNeitherKind at k = and (not (pairwise nested at (suc k))) (not (pairwise similar at (suc k)))
 
 -- 6 for the lowest position below n whose window is bad
-unfoldable pub forwardAnswer : (ℕ → Task) → ℕ → Answer
-forwardAnswer at n = refusedAt Window (λ k. badWindow (at k)) n
+unfoldable pub badWindowAnswer : (ℕ → Task) → ℕ → Answer
+badWindowAnswer at n = refusedAt Window (λ k. badWindow (at k)) n
 
 -- 7 for 'the lowest position such that the table cut after it is of neither kind'
 unfoldable pub kindAnswer : (ℕ → Task) → ℕ → Answer
@@ -41,12 +41,12 @@ kindAnswer at n = refusedAt Kind (ofNeitherKind at) n
 
 -- what the windows of the first n tasks answer: 6, and else 7
 unfoldable pub windowsAnswer : (ℕ → Task) → ℕ → Answer
-windowsAnswer at n = firstRefusal (forwardAnswer at n) (kindAnswer at n)
+windowsAnswer at n = firstRefusal (badWindowAnswer at n) (kindAnswer at n)
 
 -- what the windows of a table answer
-unfoldable pub windowAnswer : Table → Answer
-windowAnswer t = windowsAnswer (taskAt t) (t .count)
+unfoldable pub tableWindowsAnswer : Table → Answer
+tableWindowsAnswer t = windowsAnswer (taskAt t) (t .count)
 
--- 7 as document 01 has it, for readers and planners of nested tables alone: the lowest position that is not nested with some earlier one
+-- 7 as document 01 has it, for readers and planners of nested tables alone, which are to come: the lowest position that is not nested with some earlier one
 unfoldable pub nestingAnswer : (ℕ → Task) → ℕ → Answer
 nestingAnswer at n = refusedAt Kind (failsEarlier nested at) n

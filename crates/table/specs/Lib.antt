@@ -3,7 +3,8 @@ pub mod Layout
 pub mod Answers
 pub mod Windows
 pub mod Kinds
-pub mod WindowColumns
 pub mod Reading
 pub mod Writing
 pub mod Moving
+pub mod RowLimits
+pub mod WindowColumns

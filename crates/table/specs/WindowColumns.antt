@@ -3,11 +3,17 @@ use Prim.Native.Nat.{ℕ, _-_, _<_}
 use mathlib.Core.Path.{_≡_}
 use mathlib.Core.List.{List}
 use lib.ListN.{getD}
+use denote.Ref.{now}
+use Rattle.base.specs.Lent.{ListParameter}
 use Rattle.table.specs.declared.Task.{Task}
 
 -- the window at place j of a column of release frames and a column of deadline frames, as a task of no ticks
 abbrev pub windowAt : List ℕ → List ℕ → ℕ → Task
 windowAt releases deadlines j = record { release = getD releases j 0; deadline = getD deadlines j 0; mandatory = 0; optional = 0 }
+
+-- the windows of two columns that a function is lent, as they stand when it is called
+abbrev pub windowsLent : ListParameter → ListParameter → ℕ → Task
+windowsLent releases deadlines = windowAt (now (releases .entry)) (now (deadlines .entry))
 
 -- the columns hold the frames of the tasks below the count
 abbrev pub FramesOf : (ℕ → Task) → ℕ → List ℕ → List ℕ → Type 0

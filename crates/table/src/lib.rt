@@ -1,16 +1,18 @@
-// The table value: its tasks, its places, its constructor, the rules for windows that reading and writing share, and the answers.
+// The table value and its constructors; the widths and lengths of its file; the tests of its header; the rules for windows that reading and writing share;
+// the answers, and the reply of calls that write.
 ghost use mathlib.Core.Path.{_≡_};
 ghost use mathlib.Core.Bool.{not};
-ghost use Prim.Native.Nat.{_≤_, min};
+ghost use Prim.Native.Nat.{_≤_, _<_, min};
 ghost use lib.ListN.{length, getD};
 ghost use Rattle.base.specs.Limits.{maxTasks};
 ghost use Rattle.base.specs.Lowest.{lowest, someBelow};
 ghost use Rattle.table.specs.Tables.{noTask, noTable, tableOf};
 ghost use Rattle.table.specs.Answers.{numberOf, placeOf, declined, wrote};
 ghost use Rattle.table.specs.Windows.{badWindow, contains, nested};
-ghost use Rattle.table.specs.Kinds.{failsEarlier, forwardAnswer, kindAnswer, nestingAnswer, ofNeitherKind, windowAnswer, windowsAnswer};
-ghost use Rattle.table.specs.WindowColumns.{windowAt, Mirrored};
-ghost use Rattle.table.specs.Layout.{badCount, badPeriod, widestRow, rowsLength, fileLength};
+ghost use Rattle.table.specs.Kinds.{failsEarlier, badWindowAnswer, kindAnswer, nestingAnswer, ofNeitherKind, tableWindowsAnswer, windowsAnswer};
+ghost use Rattle.table.specs.WindowColumns.{windowAt, windowsLent, Mirrored};
+ghost use Rattle.table.specs.Layout.{badCount, badPeriod, rowsLength, fileLength};
+ghost use Rattle.table.specs.RowLimits.{widestRow};
 use base::MAX_PERIOD;
 use base::MAX_TASKS;
 
@@ -31,11 +33,11 @@ pub const TASK_WIDTH: usize = 2 * FRAME_WIDTH + 2 * TICKS_WIDTH;
 // The most bytes of a file: those of as many tasks as a table has places. Definitions say maxFile.
 pub const MAX_FILE: usize = (HEADER_WIDTH + TASK_WIDTH * MAX_TASKS + 7) / 8;
 
-// What is held of a file: one byte more than the longest file has. Definitions say heldBytes.
-pub const HELD_BYTES: usize = MAX_FILE + 1;
+// How many bytes a program reads of a file: one more than the longest file has. Definitions say fileBytesRead.
+pub const FILE_BYTES_READ: usize = MAX_FILE + 1;
 
-// How many bytes of an input of some length are held, where no more than `size` are.
-pub fn held_of(length: usize, size: usize) -> usize
+// How many bytes are read of an input of some length, where no more than `size` are.
+pub fn bytes_read(length: usize, size: usize) -> usize
     ensures { λ r. ⌜ r ≡ min length size ⌝ }
 {
     if size < length {
@@ -98,7 +100,7 @@ pub struct Reading {
     pub table: Table,
 }
 
-// The reply of writing and of moving: the refusal's number and place, or 0 and the number of bytes written.
+// The reply of writing, of moving and of showing a file as text: the refusal's number and place, or 0 and the number of bytes written.
 #[repr(C)]
 pub struct Written {
     pub number: u32,
@@ -208,7 +210,7 @@ pub fn file_length(count: u32) -> usize
 }
 
 // The release frame is not below the deadline frame.
-fn is_bad_window(task: Task) -> bool
+pub fn is_bad_window(task: Task) -> bool
     ensures { λ r. ⌜ r ≡ badWindow task ⌝ }
 {
     task.deadline <= task.release
@@ -228,20 +230,28 @@ fn are_nested(a: Task, b: Task) -> bool
     window_contains(a, b) | window_contains(b, a)
 }
 
+// The window at a place of two columns, as a task of no ticks.
+fn window_at(releases: &[u32], deadlines: &[u32], k: usize) -> Task
+    requires { ⌜ (k < length (now releases)) × (k < length (now deadlines)) ⌝ }
+    ensures { λ r. ⌜ r ≡ windowsLent releases deadlines k ⌝ }
+{
+    Task {
+        release: releases[k],
+        deadline: deadlines[k],
+        mandatory: 0,
+        optional: 0,
+    }
+}
+
 // The window of a task is not nested with some of the first `count` windows that stand in two columns. All of them are looked at, without a branch.
 fn crosses_earlier(task: Task, releases: &[u32], deadlines: &[u32], count: usize) -> bool
     requires { ⌜ (count ≤ length (now releases)) × (count ≤ length (now deadlines)) ⌝ }
-    ensures { λ r. ⌜ r ≡ someBelow (λ j. not (nested (windowAt (now (releases .entry)) (now (deadlines .entry)) j) task)) count ⌝ }
+    ensures { λ r. ⌜ r ≡ someBelow (λ j. not (nested (windowsLent releases deadlines j) task)) count ⌝ }
 {
     let mut crossing = false;
     let mut j: usize = 0;
     while j < count {
-        let earlier = Task {
-            release: releases[j],
-            deadline: deadlines[j],
-            mandatory: 0,
-            optional: 0,
-        };
+        let earlier = window_at(releases, deadlines, j);
         crossing = crossing | !are_nested(earlier, task);
         j += 1;
     }
@@ -251,16 +261,11 @@ fn crosses_earlier(task: Task, releases: &[u32], deadlines: &[u32], count: usize
 // The lowest position below the count whose window is bad, of windows that stand in two columns, and the count where none is.
 fn first_bad_window(releases: &[u32], deadlines: &[u32], count: usize) -> usize
     requires { ⌜ (count ≤ length (now releases)) × (count ≤ length (now deadlines)) ⌝ }
-    ensures { λ r. ⌜ r ≡ lowest (λ k. badWindow (windowAt (now (releases .entry)) (now (deadlines .entry)) k)) count ⌝ }
+    ensures { λ r. ⌜ r ≡ lowest (λ k. badWindow (windowsLent releases deadlines k)) count ⌝ }
 {
     let mut k: usize = 0;
     while k < count {
-        let window = Task {
-            release: releases[k],
-            deadline: deadlines[k],
-            mandatory: 0,
-            optional: 0,
-        };
+        let window = window_at(releases, deadlines, k);
         if is_bad_window(window) {
             return k;
         }
@@ -273,16 +278,11 @@ fn first_bad_window(releases: &[u32], deadlines: &[u32], count: usize) -> usize
 // count where there is none.
 fn first_crossing(releases: &[u32], deadlines: &[u32], count: usize) -> usize
     requires { ⌜ (count ≤ length (now releases)) × (count ≤ length (now deadlines)) ⌝ }
-    ensures { λ r. ⌜ r ≡ lowest (failsEarlier nested (windowAt (now (releases .entry)) (now (deadlines .entry)))) count ⌝ }
+    ensures { λ r. ⌜ r ≡ lowest (failsEarlier nested (windowsLent releases deadlines)) count ⌝ }
 {
     let mut k: usize = 0;
     while k < count {
-        let window = Task {
-            release: releases[k],
-            deadline: deadlines[k],
-            mandatory: 0,
-            optional: 0,
-        };
+        let window = window_at(releases, deadlines, k);
         if crosses_earlier(window, releases, deadlines, k) {
             return k;
         }
@@ -313,7 +313,7 @@ fn first_of_neither(releases: &[u32], deadlines: &[u32], count: usize, crossing:
     requires { ⌜ count ≤ maxTasks ⌝ }
     requires { ⌜ (count ≤ length (now releases)) × (count ≤ length (now deadlines)) ⌝ }
     requires { ⌜ crossing ≡ lowest (failsEarlier nested (windowAt (now releases) (now deadlines))) count ⌝ }
-    ensures { λ r. ⌜ r ≡ lowest (ofNeitherKind (windowAt (now (releases .entry)) (now (deadlines .entry)))) count ⌝ }
+    ensures { λ r. ⌜ r ≡ lowest (ofNeitherKind (windowsLent releases deadlines)) count ⌝ }
 {
     let column = mirrored(deadlines, count);
     let dissimilar = first_crossing(releases, &column, count);
@@ -324,9 +324,9 @@ fn first_of_neither(releases: &[u32], deadlines: &[u32], count: usize, crossing:
 }
 
 // The first of the windows in two columns that is bad, as an answer.
-fn forward_answer(releases: &[u32], deadlines: &[u32], count: usize) -> Answer
+fn bad_window_answer(releases: &[u32], deadlines: &[u32], count: usize) -> Answer
     requires { ⌜ (count ≤ length (now releases)) × (count ≤ length (now deadlines)) ⌝ }
-    ensures { λ r. ⌜ r ≡ forwardAnswer (windowAt (now (releases .entry)) (now (deadlines .entry))) count ⌝ }
+    ensures { λ r. ⌜ r ≡ badWindowAnswer (windowsLent releases deadlines) count ⌝ }
 {
     let bad = first_bad_window(releases, deadlines, count);
     if bad < count {
@@ -340,7 +340,7 @@ fn forward_answer(releases: &[u32], deadlines: &[u32], count: usize) -> Answer
 fn kind_answer(releases: &[u32], deadlines: &[u32], count: usize) -> Answer
     requires { ⌜ count ≤ maxTasks ⌝ }
     requires { ⌜ (count ≤ length (now releases)) × (count ≤ length (now deadlines)) ⌝ }
-    ensures { λ r. ⌜ r ≡ kindAnswer (windowAt (now (releases .entry)) (now (deadlines .entry))) count ⌝ }
+    ensures { λ r. ⌜ r ≡ kindAnswer (windowsLent releases deadlines) count ⌝ }
 {
     let crossing = first_crossing(releases, deadlines, count);
     if count <= crossing {
@@ -353,10 +353,11 @@ fn kind_answer(releases: &[u32], deadlines: &[u32], count: usize) -> Answer
     Answer::Accepted
 }
 
-// The first of the windows in two columns that crosses an earlier one, as an answer: for readers and planners of nested tables alone.
+// The first of the windows in two columns that crosses an earlier one, as an answer: for readers and planners of nested tables
+// alone, which are to come; no call sends it yet.
 pub fn nesting_answer(releases: &[u32], deadlines: &[u32], count: usize) -> Answer
     requires { ⌜ (count ≤ length (now releases)) × (count ≤ length (now deadlines)) ⌝ }
-    ensures { λ r. ⌜ r ≡ nestingAnswer (windowAt (now (releases .entry)) (now (deadlines .entry))) count ⌝ }
+    ensures { λ r. ⌜ r ≡ nestingAnswer (windowsLent releases deadlines) count ⌝ }
 {
     let crossing = first_crossing(releases, deadlines, count);
     if crossing < count {
@@ -369,11 +370,11 @@ pub fn nesting_answer(releases: &[u32], deadlines: &[u32], count: usize) -> Answ
 pub fn columns_answer(releases: &[u32], deadlines: &[u32], count: usize) -> Answer
     requires { ⌜ count ≤ maxTasks ⌝ }
     requires { ⌜ (count ≤ length (now releases)) × (count ≤ length (now deadlines)) ⌝ }
-    ensures { λ r. ⌜ r ≡ windowsAnswer (windowAt (now (releases .entry)) (now (deadlines .entry))) count ⌝ }
+    ensures { λ r. ⌜ r ≡ windowsAnswer (windowsLent releases deadlines) count ⌝ }
 {
-    let forward = forward_answer(releases, deadlines, count);
-    let Answer::Accepted = forward else {
-        return forward;
+    let bad = bad_window_answer(releases, deadlines, count);
+    let Answer::Accepted = bad else {
+        return bad;
     };
     kind_answer(releases, deadlines, count)
 }
@@ -419,7 +420,7 @@ impl Table {
     // frames are put in two columns, so that the searches need not be lent the table.
     pub fn window_answer(self) -> Answer
         requires { ⌜ self .count ≤ maxTasks ⌝ }
-        ensures { λ r. ⌜ r ≡ windowAnswer self ⌝ }
+        ensures { λ r. ⌜ r ≡ tableWindowsAnswer self ⌝ }
     {
         let mut releases = [0u32; MAX_TASKS];
         let mut deadlines = [0u32; MAX_TASKS];

@@ -1,11 +1,11 @@
--- A table that is printed and parsed again is the same table, and so a file by way of its text is the same file. Assumes nothing.
+-- A table that is printed and parsed again is the same table, and so a file by way of its text is the same file.
 use Prim.Native.Nat.{ℕ, zero, suc, _+_, _-_, _≤_, _<_}
 use mathlib.Core.Path.{_≡_, refl, ap, _∙_}
 use mathlib.Core.Bool.{true, false}
 use mathlib.Core.List.{List, [], _∷_, _++_, map}
 use native.Mathlib.Omega.{arith}
 use native.Mathlib.Decide.{decLt}
-use lib.ListN.{length, getD, drop, List·getD-eq-default}
+use lib.ListN.{length, getD, List·getD-eq-default}
 use borrow.Author.Tests.{le-ltb, le-leb, lt-leb, eq-eqb}
 use Rattle.base.specs.Members.{All}
 use Rattle.base.specs.Places.{places}
@@ -22,12 +22,13 @@ use Rattle.table.specs.declared.Task.{Task}
 use Rattle.table.specs.declared.Table.{Table}
 use Rattle.table.specs.declared.Answer.the-variants.{Accepted}
 use Rattle.table.specs.Tables.{taskAt, tableOf, taskRow, taskOf, Same}
-use Rattle.table.specs.Answers.{wrote}
 use Rattle.table.specs.Reading.{countIn, pIn, qIn, taskIn, tableIn, readAnswer}
-use Rattle.table.specs.Writing.{Legal, fileOf, writeReply, writtenOver}
-use Rattle.table.proofs.FileLaws.{tableOf-same, tableOf-canonical, tableOf-tasks, Narrow, narrow-known, legal-count, period-known}
-use Rattle.table.proofs.RoundTrip.{read-legal, read-again, read-writes, read-over}
-use Rattle.table_text.specs.TableText.{lineAt, numbersAt, countSaid, pSaid, qSaid, due, lineWrong, linesLooked, rightLines, tableSaid, rightTable, parsed, headLine, taskLine, taskLines, tableText}
+use Rattle.table.specs.Writing.{fileOf, Legal}
+use Rattle.table.proofs.TableLaws.{tableOf-same, tableOf-canonical, tableOf-tasks}
+use Rattle.table.proofs.RowFiles.{period-known}
+use Rattle.table.proofs.FileLaws.{Narrow, narrow-known, legal-count}
+use Rattle.table.proofs.RoundTrip.{read-legal, read-again}
+use Rattle.table_text.specs.TableText.{lineAt, numbersAt, countInText, pInText, qInText, due, lineWrong, linesChecked, rightLines, tableInText, rightTable, parseReply, headLine, taskLine, taskLines, tableText}
 
 -- the line of a task without its newline
 abbrev taskContent : Task → List ℕ
@@ -50,9 +51,9 @@ tasks-cut (task ∷ tasks) h =
 
 -- a line that has numbers alone, and as many as are due, is right
 line-right : (text : List ℕ) (k : ℕ) (line numbers : List ℕ) → lineAt text k ≡ line → allNumbers (wordsOf line) ≡ true → numbersOf line ≡ numbers
-    → length numbers ≡ due k (countSaid text) → lineWrong text k ≡ false
+    → length numbers ≡ due k (countInText text) → lineWrong text k ≡ false
 unfolding lineWrong numbersAt
-line-right text k line numbers here right said few = rw (here, right, said, eq-eqb (length numbers) (due k (countSaid text)) few)
+line-right text k line numbers here right are few = rw (here, right, are, eq-eqb (length numbers) (due k (countInText text)) few)
 
 -- A table of which every number may stand on a line.
 module _ (t : Table) (head : Small (t .count ∷ t .p ∷ t .q ∷ [])) (tasks : (k : ℕ) → k < t .count → Small (taskRow (taskAt t k))) where
@@ -87,20 +88,20 @@ module _ (t : Table) (head : Small (t .count ∷ t .p ∷ t .q ∷ [])) (tasks :
       line-behind k
       ∙ List·getD-eq-default (taskContents t) [] {n = k} (omega (arith, places-length (λ k. taskContent (taskAt t k)) (t .count)))
 
-  -- what line 1 says
-  head-said : numbersAt (tableText t) 1 ≡ t .count ∷ t .p ∷ t .q ∷ []
+  -- the numbers on line 1
+  head-numbers : numbersAt (tableText t) 1 ≡ t .count ∷ t .p ∷ t .q ∷ []
   unfolding numbersAt
-  head-said = rw line-head (content-numbers (t .count) (t .p ∷ t .q ∷ []) head)
+  head-numbers = rw line-head (content-numbers (t .count) (t .p ∷ t .q ∷ []) head)
 
-  -- what the line of a task says
-  task-said : (k : ℕ) → k < t .count → numbersAt (tableText t) (suc (suc k)) ≡ taskRow (taskAt t k)
+  -- the numbers on the line of a task
+  task-numbers : (k : ℕ) → k < t .count → numbersAt (tableText t) (suc (suc k)) ≡ taskRow (taskAt t k)
   unfolding numbersAt
-  task-said k h = rw (line-task k h) (content-numbers (taskAt t k .release) (taskAt t k .deadline ∷ taskAt t k .mandatory ∷ taskAt t k .optional ∷ []) (tasks k h))
+  task-numbers k h = rw (line-task k h) (content-numbers (taskAt t k .release) (taskAt t k .deadline ∷ taskAt t k .mandatory ∷ taskAt t k .optional ∷ []) (tasks k h))
 
-  -- so the task count is said
-  count-said : countSaid (tableText t) ≡ t .count
-  unfolding countSaid
-  count-said = rw head-said
+  -- so the task count is the table's
+  count-is : countInText (tableText t) ≡ t .count
+  unfolding countInText
+  count-is = rw head-numbers
 
   -- no line is wrong
   lines-right : (k : ℕ) → lineWrong (tableText t) (suc k) ≡ false
@@ -113,36 +114,36 @@ module _ (t : Table) (head : Small (t .count ∷ t .p ∷ t .q ∷ [])) (tasks :
             let numbers = taskAt t k .deadline ∷ taskAt t k .mandatory ∷ taskAt t k .optional ∷ [] in
             line-right (tableText t) (suc (suc k)) _ _ (line-task k h) (content-right (taskAt t k .release) numbers (tasks k h))
             (content-numbers (taskAt t k .release) numbers (tasks k h))
-            (rw (count-said, lt-leb (suc (suc k)) 1 (omega arith), le-leb (suc (suc k)) (t .count + 1) (omega arith)))
+            (rw (count-is, lt-leb (suc (suc k)) 1 (omega arith), le-leb (suc (suc k)) (t .count + 1) (omega arith)))
         | no h ↦
             line-right (tableText t) (suc (suc k)) [] [] (line-blank k (omega arith)) refl refl
-            (rw (count-said, lt-leb (suc (suc k)) 1 (omega arith), lt-leb (suc (suc k)) (t .count + 1) (omega arith)))
+            (rw (count-is, lt-leb (suc (suc k)) 1 (omega arith), lt-leb (suc (suc k)) (t .count + 1) (omega arith)))
       ]
 
-  -- Its lines say the table, up to what stands beyond the count.
-  table-said : tableSaid (tableText t) ≡ tableOf (t .count) (t .p) (t .q) (taskAt t)
-  unfolding tableSaid countSaid pSaid qSaid
-  table-said =
-      rw head-said
+  -- The table of its lines is the table, up to what stands beyond the count.
+  table-is : tableInText (tableText t) ≡ tableOf (t .count) (t .p) (t .q) (taskAt t)
+  unfolding tableInText countInText pInText qInText
+  table-is =
+      rw head-numbers
       (tableOf-same (t .count) (t .p) (t .q) (λ k. taskOf (numbersAt (tableText t) (k + 2))) (taskAt t)
-      (λ k h m. let e : k + 2 ≡ suc (suc k) = omega arith in rw (e, task-said k h)))
+      (λ k h m. let e : k + 2 ≡ suc (suc k) = omega arith in rw (e, task-numbers k h)))
 
   -- That is what is parsed.
-  pub text-said : parsed (tableText t) ≡ rightTable (tableOf (t .count) (t .p) (t .q) (taskAt t))
-  unfolding parsed rightLines
-  text-said =
-      let looked = linesLooked (tableText t) in
-      rw (none-passes (λ k. lineWrong (tableText t) (suc k)) looked (λ k h. lines-right k), le-ltb looked looked (omega arith), table-said)
+  pub text-parsed : parseReply (tableText t) ≡ rightTable (tableOf (t .count) (t .p) (t .q) (taskAt t))
+  unfolding parseReply rightLines
+  text-parsed =
+      let checked = linesChecked (tableText t) in
+      rw (none-passes (λ k. lineWrong (tableText t) (suc k)) checked (λ k h. lines-right k), le-ltb checked checked (omega arith), table-is)
 
 -- A legal table, printed and parsed again.
-pub text-again : (t : Table) → Legal t → parsed (tableText t) ≡ rightTable (tableOf (t .count) (t .p) (t .q) (taskAt t))
+pub text-again : (t : Table) → Legal t → parseReply (tableText t) ≡ rightTable (tableOf (t .count) (t .p) (t .q) (taskAt t))
 text-again t l =
     let counted = legal-count l in
     let timed = period-known (t .p) (t .q) (l .timed) in
-    text-said t (omega arith) (λ k h. let n : Narrow (taskAt t k) = narrow-known (taskAt t k) (l .narrow k h) in omega arith)
+    text-parsed t (omega arith) (λ k h. let n : Narrow (taskAt t k) = narrow-known (taskAt t k) (l .narrow k h) in omega arith)
 
 -- So it is the same table.
-pub text-same : (t : Table) → Legal t → Same (parsed (tableText t) .table) t
+pub text-same : (t : Table) → Legal t → Same (parseReply (tableText t) .table) t
 text-same t l = rw (text-again t l) (tableOf-tasks t (legal-count l .1))
 
 -- a table that a file holds is given by its own tasks
@@ -151,10 +152,10 @@ unfolding tableIn tableOf
 file-canonical s = tableOf-canonical (countIn s) (pIn s) (qIn s) (taskIn s)
 
 -- The table of a file that is read without refusal, printed and parsed again, is that table.
-pub file-text : (s : List ℕ) → readAnswer s ≡ Accepted → parsed (tableText (tableIn s)) ≡ rightTable (tableIn s)
+pub file-text : (s : List ℕ) → readAnswer s ≡ Accepted → parseReply (tableText (tableIn s)) ≡ rightTable (tableIn s)
 file-text s e = text-again (tableIn s) (read-legal s e) ∙ ap rightTable (file-canonical s)
 
 -- Its file is the file that was read, byte for byte.
 pub file-text-again : (s : List ℕ) → Bytes s → readAnswer s ≡ Accepted
-    → (parsed (tableText (tableIn s)) ≡ rightTable (tableIn s)) × (fileOf (parsed (tableText (tableIn s)) .table) ≡ s)
+    → (parseReply (tableText (tableIn s)) ≡ rightTable (tableIn s)) × (fileOf (parseReply (tableText (tableIn s)) .table) ≡ s)
 file-text-again s b e = (file-text s e, rw (file-text s e) (read-again s b e))

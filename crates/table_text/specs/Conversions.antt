@@ -11,7 +11,7 @@ use Rattle.table.specs.Answers.{numberOf, placeOf, isAccepted, declined, wrote}
 use Rattle.table.specs.Reading.{tableIn, readAnswer}
 use Rattle.table.specs.Writing.{fileOf, writeReply, writtenOver}
 use Rattle.table_text.specs.declared.FromText.{FromText}
-use Rattle.table_text.specs.TableText.{parsed, rightTable, tableText, maxTableText}
+use Rattle.table_text.specs.TableText.{parseReply, rightTable, tableText, maxTableText}
 
 -- From a file to the text of its table.
 
@@ -27,20 +27,20 @@ textReply file room =
 unfoldable pub textOver : List ℕ → List ℕ → List ℕ
 textOver file out = contentAfter (textReply file (length out) .number) (tableText (tableIn file)) out
 
--- a text says the table of a file again: it is parsed as that table, and the file of what is parsed is the file
-pub record SaysAgain (file text : List ℕ) : Type 0 where
-  pub table-is : parsed text ≡ rightTable (tableIn file)
-  pub file-is : fileOf (parsed text .table) ≡ file
+-- a text restores a file: it is parsed as the file's table, and the file of what is parsed is the file
+pub record RestoresFile (file text : List ℕ) : Type 0 where
+  pub table-is : parseReply text ≡ rightTable (tableIn file)
+  pub file-is : fileOf (parseReply text .table) ≡ file
 
--- so does every text that is shown
-abbrev pub ShownAgain : List ℕ → Written → List ℕ → Type 0
-ShownAgain file reply after = reply .number ≡ 0 → SaysAgain file (take (reply .bytes) after)
+-- every text that is shown does
+abbrev pub ShownRestores : List ℕ → Written → List ℕ → Type 0
+ShownRestores file reply after = reply .number ≡ 0 → RestoresFile file (take (reply .bytes) after)
 
--- what is replied to an input and left in a lent list, `old` before: the text of its table, which says the table again, or a refusal
+-- what is replied to an input and left in a lent list, `old` before: the text of its table, which restores the file, or a refusal
 pub record ShowsText (input old : List ℕ) (reply : Written) (new : List ℕ) : Type 0 where
   pub reply-is : reply ≡ textReply input (length old)
   pub content : new ≡ textOver input old
-  pub again : ShownAgain input reply new
+  pub restores : ShownRestores input reply new
 
 -- From a text to the file of its table.
 
@@ -49,11 +49,11 @@ pub record ShowsText (input old : List ℕ) (reply : Written) (new : List ℕ) :
 unfoldable pub fileReply : List ℕ → ℕ → FromText
 fileReply text room =
     record {
-      line = parsed text .line;
-      due = parsed text .due;
-      written = pick (eqb (parsed text .line) 0) (writeReply (parsed text .table) room) (wrote 0);
+      line = parseReply text .line;
+      due = parseReply text .due;
+      written = pick (eqb (parseReply text .line) 0) (writeReply (parseReply text .table) room) (wrote 0);
     }
 
 -- what the list holds then: a wrong line and a refusal leave it as it was
 unfoldable pub fileOver : List ℕ → List ℕ → List ℕ
-fileOver text out = pick (eqb (parsed text .line) 0) (writtenOver (parsed text .table) out) out
+fileOver text out = pick (eqb (parseReply text .line) 0) (writtenOver (parseReply text .table) out) out

@@ -1,4 +1,4 @@
--- A table as lines of text: which table a text says, and which text a table has.
+-- A table as lines of text: the table of a text, and the text of a table.
 -- Line 1 has three numbers: task count, p, q. Then comes one line for each task, with four: release frame, deadline frame, mandatory ticks,
 -- optional ticks. Numbers are decimal and at most 999,999,999; blanks stand between them, and may stand at either end of a line. A line ends
 -- with a newline, which the last line may lack. After the last task there may be blank lines.
@@ -28,47 +28,53 @@ lineAt text k = getD (linesOf text) (k - 1) []
 unfoldable pub numbersAt : List ℕ → ℕ → List ℕ
 numbersAt text k = numbersOf (lineAt text k)
 
--- the task count, p and q that line 1 says
-unfoldable pub countSaid : List ℕ → ℕ
-countSaid text = getD (numbersAt text 1) 0 0
+-- the task count, p and q on line 1
+unfoldable pub countInText : List ℕ → ℕ
+countInText text = getD (numbersAt text 1) 0 0
 
-unfoldable pub pSaid : List ℕ → ℕ
-pSaid text = getD (numbersAt text 1) 1 0
+unfoldable pub pInText : List ℕ → ℕ
+pInText text = getD (numbersAt text 1) 1 0
 
-unfoldable pub qSaid : List ℕ → ℕ
-qSaid text = getD (numbersAt text 1) 2 0
+unfoldable pub qInText : List ℕ → ℕ
+qInText text = getD (numbersAt text 1) 2 0
 
 -- how many numbers are due on line k, in a text for `count` tasks: three on line 1, four for each task, none after the last task
 unfoldable pub due : ℕ → ℕ → ℕ
 due k count = pick (leb k 1) 3 (pick (leb k (count + 1)) 4 0)
 
--- line k is wrong: a word on it is no number, or it has not as many numbers as are due
+-- a line is wrong as line k of a text for `count` tasks: a word on it is no number, or it has not as many numbers as are due
+abbrev pub wrongAs : ℕ → ℕ → List ℕ → Bool
+wrongAs k count line = or (not (allNumbers (wordsOf line))) (not (eqb (length (numbersOf line)) (due k count)))
+
+-- line k of a text is wrong
 unfoldable pub lineWrong : List ℕ → ℕ → Bool
-lineWrong text k = or (not (allNumbers (wordsOf (lineAt text k)))) (not (eqb (length (numbersAt text k)) (due k (countSaid text))))
+lineWrong text k = wrongAs k (countInText text) (lineAt text k)
 
--- how many lines are looked at: those of the text, and the one after the last, which has nothing on it and is wrong where a task is missing
-unfoldable pub linesLooked : List ℕ → ℕ
-linesLooked text = suc (length (linesOf text))
+-- how many lines are checked: those of the text, and the one after the last, which has nothing on it and is wrong where a task is missing
+unfoldable pub linesChecked : List ℕ → ℕ
+linesChecked text = suc (length (linesOf text))
 
--- how many lines stand before the first wrong one; all that are looked at, where none is wrong
+-- how many lines stand before the first wrong one; all that are checked, where none is wrong
 unfoldable pub rightLines : List ℕ → ℕ
-rightLines text = lowest (λ k. lineWrong text (suc k)) (linesLooked text)
+rightLines text = lowest (λ k. lineWrong text (suc k)) (linesChecked text)
 
--- the table that the lines say: line k + 2 has the task at position k
-unfoldable pub tableSaid : List ℕ → Table
-tableSaid text = tableOf (countSaid text) (pSaid text) (qSaid text) (λ k. taskOf (numbersAt text (k + 2)))
+-- the table of the lines: line k + 2 has the task at position k
+unfoldable pub tableInText : List ℕ → Table
+tableInText text = tableOf (countInText text) (pInText text) (qInText text) (λ k. taskOf (numbersAt text (k + 2)))
 
--- what is found: the first wrong line, how many numbers are due there, and the table that is 0 throughout; where no line is wrong, the table
+-- what is found where a line is wrong: that line, how many numbers are due there, and the table that is 0 throughout
 abbrev pub wrongLine : ℕ → ℕ → Parsed
 wrongLine k count = record { line = k; due = due k count; table = noTable }
 
+-- what is found where none is: the table
 abbrev pub rightTable : Table → Parsed
 rightTable t = record { line = 0; due = 0; table = t }
 
-unfoldable pub parsed : List ℕ → Parsed
-parsed text =
-    pick (ltb (rightLines text) (linesLooked text)) (wrongLine (suc (rightLines text)) (countSaid text))
-    (rightTable (tableSaid text))
+-- what is found in a text: its first wrong line, or its table
+unfoldable pub parseReply : List ℕ → Parsed
+parseReply text =
+    pick (ltb (rightLines text) (linesChecked text)) (wrongLine (suc (rightLines text)) (countInText text))
+    (rightTable (tableInText text))
 
 -- Printing a table.
 
@@ -80,6 +86,7 @@ headLine t = line (decimal (t .count)) (t .p ∷ t .q ∷ [])
 unfoldable pub taskLine : Task → List ℕ
 taskLine task = line (decimal (task .release)) (task .deadline ∷ task .mandatory ∷ task .optional ∷ [])
 
+-- the lines of tasks, one after another
 unfoldable pub taskLines : List Task → List ℕ
 taskLines [] = []
 taskLines (task ∷ tasks) = taskLine task ++ taskLines tasks
@@ -88,8 +95,8 @@ taskLines (task ∷ tasks) = taskLine task ++ taskLines tasks
 unfoldable pub tableText : Table → List ℕ
 tableText t = headLine t ++ taskLines (places (taskAt t) (t .count))
 
--- a bound that every table's text keeps, whatever its numbers of 64 bits, and not the most that one has: no line is longer than four numbers of 20 digits,
--- each with a byte behind it
+-- a bound on the text of a table of at most 64 tasks, whatever its numbers of 64 bits, and not the most that one has: no line is longer than four numbers of
+-- 20 digits, each with a byte behind it
 abbrev pub maxTableText : ℕ
 maxTableText = (1 + maxTasks) * (4 * maxField)
 

@@ -26,9 +26,9 @@ task release deadline mandatory optional = record { release = release; deadline 
 abbrev pub table : ℕ → ℕ → List Task → Table
 table p q tasks = record { count = length tasks; p = p; q = q; tasks = tasks ++ replicate (64 - length tasks) (task 0 0 0 0) }
 
--- no line is wrong, and the lines say this table
-abbrev pub says : Table → Parsed
-says t = record { line = 0; due = 0; table = t }
+-- no line is wrong, and this is the table of the lines
+abbrev pub noneWrong : Table → Parsed
+noneWrong t = record { line = 0; due = 0; table = t }
 
 -- a wrong line, and how many numbers are due there; the table is 0 throughout
 abbrev pub wrongAt : ℕ → ℕ → Parsed
@@ -55,12 +55,12 @@ cutText = textOf ("3 1 1" ∷ "0 10 2 3" ∷ "2 8 1 3" ∷ "4 6" ∷ [])
 unfoldable pub textSamples : List TextSample
 textSamples =
     -- P4; and P8, where the last line lacks its newline
-    sample p4Text (says p4Table)
-    ∷ sample (ascii "3 1 1\n0 10 2 3\n2 8 1 3\n4 6 1 1") (says p8Table)
+    sample p4Text (noneWrong p4Table)
+    ∷ sample (ascii "3 1 1\n0 10 2 3\n2 8 1 3\n4 6 1 1") (noneWrong p8Table)
     -- P4 with tabs, spaces and carriage returns, and blank lines at the end
-    ∷ sample (textOf (" 1\t100  1\r" ∷ "0 2 100 50 \r" ∷ "" ∷ " " ∷ [])) (says p4Table)
-    -- zeros in front, and the greatest number that a word may say
-    ∷ sample (textOf ("01 100 1" ∷ "0 2 00100 999999999" ∷ [])) (says (table 100 1 (task 0 2 100 999_999_999 ∷ [])))
+    ∷ sample (textOf (" 1\t100  1\r" ∷ "0 2 100 50 \r" ∷ "" ∷ " " ∷ [])) (noneWrong p4Table)
+    -- zeros in front, and the greatest number that a word may mean
+    ∷ sample (textOf ("01 100 1" ∷ "0 2 00100 999999999" ∷ [])) (noneWrong (table 100 1 (task 0 2 100 999_999_999 ∷ [])))
     -- no text: line 1 is missing
     ∷ sample [] (wrongAt 1 3)
     -- line 1 has two numbers, and four
@@ -74,7 +74,7 @@ textSamples =
     -- the bytes before 0 and after 9 are no digits
     ∷ sample (textOf ("1 100 1" ∷ "/ 2 100 50" ∷ [])) (wrongAt 2 4)
     ∷ sample (textOf ("1 100 1" ∷ ": 2 100 50" ∷ [])) (wrongAt 2 4)
-    -- line 1 says two tasks, and one is there
+    -- line 1 has two tasks, and one is there
     ∷ sample (textOf ("2 1 1" ∷ "0 5 1 1" ∷ [])) (wrongAt 3 4)
     -- a blank line before the task
     ∷ sample (textOf ("1 100 1" ∷ "" ∷ "0 2 100 50" ∷ [])) (wrongAt 2 4)

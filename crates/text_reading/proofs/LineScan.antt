@@ -1,7 +1,7 @@
 -- A line that is read byte by byte holds the numbers of its words.
 use Prim.Native.Nat.{ℕ, zero, suc, _+_, _-_, _*_, _≤_, _<_}
 use mathlib.Core.Path.{_≡_, refl, ap}
-use mathlib.Core.Bool.{Bool, true, false, not}
+use mathlib.Core.Bool.{Bool, true, false, not, or-true}
 use mathlib.Core.List.{List, [], _∷_, _++_, map, foldl, append-nil, append-assoc}
 use native.Mathlib.Omega.{arith}
 use native.Mathlib.Decide.{decLe}
@@ -9,26 +9,26 @@ use lib.Dec.{leb, ltb, eqb}
 use lib.ListN.{length, getD, replicate, length-append, length-map, set}
 use lib.Seq.{set-append-seam}
 use borrow.Author.Tests.{leb-true, ltb-false, le-leb, lt-ltb, le-ltb, ne-eqb, not-false}
-use Rattle.base.specs.Tests.{and, or}
+use Rattle.base.specs.Tests.{and}
 use Rattle.base.specs.Members.{All}
-use Rattle.base.proofs.TestLaws.{cases, and-left, and-right, pick-cases, both-absurd, or-left, or-true}
+use Rattle.base.proofs.TestLaws.{cases, and-left, and-right, pick-cases, both-absurd, or-left}
 use Rattle.lines.specs.Splitting.{isBlank, isDigit, cutAt, nonempty, wordsOf, valueAfter, valueOf, allDigits, maxNumber, isNumber, allNumbers, numbersOf}
 use Rattle.lines.proofs.DecimalLaws.{value-grows}
 use Rattle.lines.proofs.SplitLaws.{Plain, cut-plain, cut-over, digit-known, digit-no-blank}
-use Rattle.table_text.specs.TableText.{due}
+use Rattle.table_text.specs.TableText.{due, wrongAs}
 use Rattle.text_reading.specs.declared.Line.{Line}
-use Rattle.text_reading.specs.Scanning.{noLine, spoiled, withDigit, withNumber, withByte, lineSpoiled}
+use Rattle.text_reading.specs.Scanning.{noLine, withFault, withDigit, withNumber, withByte, endsWrong}
 
--- What spoils a line stays: once a number is complete,
+-- A fault of a line stays: once a number is complete,
 bad-number : (l : Line) → l .bad ≡ true → withNumber l .bad ≡ true
-unfolding withNumber spoiled
+unfolding withNumber withFault
 bad-number l h =
     pick-cases (λ (r : Line). r .bad ≡ true) (l .reading)
     (λ a. pick-cases (λ (r : Line). r .bad ≡ true) (ltb (l .seen) 4) (λ b. h) (λ b. refl)) (λ a. h)
 
 -- with a byte more,
 bad-byte : (l : Line) (byte : ℕ) → l .bad ≡ true → withByte l byte .bad ≡ true
-unfolding withByte withDigit spoiled
+unfolding withByte withDigit withFault
 bad-byte l byte h =
     pick-cases (λ (r : Line). r .bad ≡ true) (isDigit byte)
     (λ a. pick-cases (λ (r : Line). r .bad ≡ true) (ltb 99_999_999 (l .value)) (λ b. refl) (λ b. h))
@@ -43,7 +43,7 @@ bad-bytes l (byte ∷ bytes) h = bad-bytes (withByte l byte) bytes (bad-byte l b
 abbrev overWord : Line → List ℕ → Line
 overWord l word = withNumber (foldl withByte l word)
 
--- what spoils a line stays over such pieces too
+-- a fault of a line stays over such pieces too
 bad-words : (l : Line) (words : List (List ℕ)) → l .bad ≡ true → foldl overWord l words .bad ≡ true
 bad-words l [] h = h
 bad-words l (word ∷ words) h = bad-words (overWord l word) words (bad-number (foldl withByte l word) (bad-bytes l word h))
@@ -52,7 +52,7 @@ bad-words l (word ∷ words) h = bad-words (overWord l word) words (bad-number (
 abbrev padded : List ℕ → List ℕ
 padded numbers = numbers ++ replicate (4 - length numbers) 0
 
--- a line that is not spoiled, with some numbers; the next one is being read or not, and its value so far
+-- a line without a fault, with some numbers; the next one is being read or not, and its value so far
 abbrev lineWith : List ℕ → Bool → ℕ → Line
 lineWith numbers reading value = record { bad = false; seen = length numbers; numbers = padded numbers; reading = reading; value = value }
 
@@ -74,12 +74,12 @@ digits-read numbers reading value byte (next ∷ bytes) e h =
     rw (digit-read numbers reading value byte (and-left (isDigit byte) (allDigits (next ∷ bytes)) e) (omega arith))
     (digits-read numbers true next-value next bytes (and-right (isDigit byte) (allDigits (next ∷ bytes)) e) h)
 
--- Over a word that is none, the line is spoiled.
-word-spoils : (numbers : List ℕ) (reading : Bool) (value : ℕ) (word : List ℕ) → Plain isBlank word → value ≤ maxNumber
+-- Over a word that is none, the line gets a fault.
+word-faulty : (numbers : List ℕ) (reading : Bool) (value : ℕ) (word : List ℕ) → Plain isBlank word → value ≤ maxNumber
     → and (allDigits word) (leb (valueAfter value word) maxNumber) ≡ false → foldl withByte (lineWith numbers reading value) word .bad ≡ true
-unfolding allDigits valueAfter withByte withDigit spoiled
-word-spoils numbers reading value [] plain h e = both-absurd (leb value maxNumber) (le-leb value maxNumber h) e
-word-spoils numbers reading value (byte ∷ word) plain h e =
+unfolding allDigits valueAfter withByte withDigit withFault
+word-faulty numbers reading value [] plain h e = both-absurd (leb value maxNumber) (le-leb value maxNumber h) e
+word-faulty numbers reading value (byte ∷ word) plain h e =
     cases (isDigit byte)
     (λ d.
     cases (ltb 99_999_999 value)
@@ -87,7 +87,7 @@ word-spoils numbers reading value (byte ∷ word) plain h e =
     (λ l.
     let known : (48 ≤ byte) × (byte ≤ 57) = digit-known byte d in
     let low : value ≤ 99_999_999 = ltb-false 99_999_999 value l in
-    rw (digit-read numbers reading value byte d low) (word-spoils numbers true (10 * value + (byte - 48)) word (plain .1) (omega arith) (rw d at e))))
+    rw (digit-read numbers reading value byte d low) (word-faulty numbers true (10 * value + (byte - 48)) word (plain .1) (omega arith) (rw d at e))))
     (λ d. bad-bytes (withByte (lineWith numbers reading value) byte) word (rw (d, plain .0)))
 
 -- the places of a line with one number more
@@ -102,12 +102,12 @@ number-read : (numbers : List ℕ) (value : ℕ) → length numbers < 4 → with
 unfolding withNumber
 number-read numbers value h = rw (lt-ltb (length numbers) 4 h, padded-set numbers value h, length-append numbers (value ∷ []))
 
--- and a fifth spoils the line.
-number-spoils : (numbers : List ℕ) (value : ℕ) → 4 ≤ length numbers → withNumber (lineWith numbers true value) .bad ≡ true
-unfolding withNumber spoiled
-number-spoils numbers value h = rw (le-ltb (length numbers) 4 h)
+-- and a fifth is a fault.
+number-faulty : (numbers : List ℕ) (value : ℕ) → 4 ≤ length numbers → withNumber (lineWith numbers true value) .bad ≡ true
+unfolding withNumber withFault
+number-faulty numbers value h = rw (le-ltb (length numbers) 4 h)
 
--- What a line with some numbers is after the words that followed: it holds their numbers too, or is spoiled, by a word that is no number or by a
+-- What a line with some numbers is after the words that followed: it holds their numbers too, or has a fault, by a word that is no number or by a
 -- fifth number.
 record Read (numbers : List ℕ) (words : List (List ℕ)) (l : Line) : Type 0 where
   right : allNumbers words ≡ true → length numbers + length words ≤ 4 → l ≡ lineWith (numbers ++ map valueOf words) false 0
@@ -149,7 +149,7 @@ number-over numbers byte bytes e =
 -- over a word that is none
 wrong-over : (numbers word : List ℕ) → Plain isBlank word → isNumber word ≡ false → overWord (lineWith numbers false 0) word .bad ≡ true
 unfolding isNumber valueOf
-wrong-over numbers word plain e = bad-number _ (word-spoils numbers false 0 word plain (omega arith) e)
+wrong-over numbers word plain e = bad-number _ (word-faulty numbers false 0 word plain (omega arith) e)
 
 -- over the pieces between blanks
 words-read : (numbers : List ℕ) (pieces : List (List ℕ)) → length numbers ≤ 4 → All (Plain isBlank) pieces
@@ -165,7 +165,7 @@ words-read numbers ((byte ∷ bytes) ∷ pieces) h plain =
     elim (decLe 4 (length numbers)) [
       | yes full ↦
           word-wrong numbers (byte ∷ bytes) (nonempty pieces) _ (λ a. full)
-          (bad-words (overWord (lineWith numbers false 0) (byte ∷ bytes)) pieces (rw (number-over numbers byte bytes e) (number-spoils numbers value full)))
+          (bad-words (overWord (lineWith numbers false 0) (byte ∷ bytes)) pieces (rw (number-over numbers byte bytes e) (number-faulty numbers value full)))
       | no room ↦
           rw (number-over numbers byte bytes e, number-read numbers value (omega arith))
           (word-right numbers (byte ∷ bytes) (nonempty pieces) _ e (words-read (numbers ++ value ∷ []) pieces (omega (arith, length-append numbers (value ∷ []))) (plain .1)))
@@ -195,34 +195,30 @@ due-few k count =
     pick-cases (λ n. n ≤ 4) (leb k 1) (λ a. omega arith)
     (λ a. pick-cases (λ n. n ≤ 4) (leb k (count + 1)) (λ b. omega arith) (λ b. omega arith))
 
--- a line is wrong: a word is no number, or there are not as many numbers as are due
-abbrev pub isWrong : ℕ → ℕ → List ℕ → Bool
-isWrong k count line = or (not (allNumbers (wordsOf line))) (not (eqb (length (numbersOf line)) (due k count)))
-
 module _ (k count : ℕ) (line : List ℕ) where
-  -- a line that is spoiled, and wrong
-  spoiled-wrong : ended line .bad ≡ true → isWrong k count line ≡ true → lineSpoiled k count (ended line) ≡ isWrong k count line
-  unfolding lineSpoiled
-  spoiled-wrong e h = rw (e, h)
+  -- a line that has a fault, and is wrong
+  faulty-wrong : ended line .bad ≡ true → wrongAs k count line ≡ true → endsWrong k count (ended line) ≡ wrongAs k count line
+  unfolding endsWrong
+  faulty-wrong e h = rw (e, h)
 
   -- a line with more than four words is wrong
-  many-wrong : 4 < length (wordsOf line) → isWrong k count line ≡ true
+  many-wrong : 4 < length (wordsOf line) → wrongAs k count line ≡ true
   unfolding numbersOf
   many-wrong m =
       let few : due k count ≤ 4 = due-few k count in
       rw (ne-eqb (length (numbersOf line)) (due k count) (λ e. omega (arith, length-map (wordsOf line) valueOf))) (or-true (not (allNumbers (wordsOf line))))
 
--- A line that was read is spoiled where it is wrong,
-pub line-wrong : (k count : ℕ) (line : List ℕ) → lineSpoiled k count (ended line) ≡ isWrong k count line
-unfolding lineSpoiled numbersOf
+-- A line that was read ends wrong exactly where it is wrong,
+pub line-wrong : (k count : ℕ) (line : List ℕ) → endsWrong k count (ended line) ≡ wrongAs k count line
+unfolding endsWrong numbersOf
 line-wrong k count line =
     cases (allNumbers (wordsOf line))
     (λ a.
     elim (decLe (length (wordsOf line)) 4) [
       | yes few ↦ rw (line-read line .right a (omega arith), a)
-      | no more ↦ spoiled-wrong k count line (line-read line .many (omega arith)) (many-wrong k count line (omega arith))
+      | no more ↦ faulty-wrong k count line (line-read line .many (omega arith)) (many-wrong k count line (omega arith))
     ])
-    (λ a. spoiled-wrong k count line (line-read line .wrong a) (rw a))
+    (λ a. faulty-wrong k count line (line-read line .wrong a) (rw a))
 
 -- zeros at the end change no number
 padded-at : (numbers : List ℕ) (n i : ℕ) → getD (numbers ++ replicate n 0) i 0 ≡ getD numbers i 0
@@ -233,12 +229,12 @@ padded-at (number ∷ numbers) n zero = refl
 padded-at (number ∷ numbers) n (suc i) = padded-at numbers n i
 
 -- and else holds its numbers.
-pub line-numbers : (k count : ℕ) (line : List ℕ) → isWrong k count line ≡ false → (i : ℕ) → getD (ended line .numbers) i 0 ≡ getD (numbersOf line) i 0
+pub line-numbers : (k count : ℕ) (line : List ℕ) → wrongAs k count line ≡ false → (i : ℕ) → getD (ended line .numbers) i 0 ≡ getD (numbersOf line) i 0
 unfolding numbersOf
 line-numbers k count line e i =
     elim (decLe (length (wordsOf line)) 4) [
       | yes few ↦
           rw (line-read line .right (not-false (allNumbers (wordsOf line)) (or-left (not (allNumbers (wordsOf line))) (not (eqb (length (numbersOf line)) (due k count))) e)) (omega arith))
           (padded-at (numbersOf line) (4 - length (numbersOf line)) i)
-      | no more ↦ both-absurd (isWrong k count line) (many-wrong k count line (omega arith)) e
+      | no more ↦ both-absurd (wrongAs k count line) (many-wrong k count line (omega arith)) e
     ]

@@ -2,7 +2,7 @@
 use Prim.Native.Nat.{ℕ, _+_, _≤_, _<_}
 use mathlib.Core.Path.{_≡_, sym, ap, _∙_}
 use mathlib.Core.Bool.{Bool, true, false}
-use mathlib.Core.List.{List}
+use mathlib.Core.List.{List, foldl}
 use native.Mathlib.Omega.{arith}
 use native.Mathlib.Numerals.{add-one}
 use lib.Dec.{eqb}
@@ -16,14 +16,14 @@ use Rattle.table.specs.Tables.{noTable}
 use Rattle.table_text.specs.TableText.{due}
 use Rattle.text_reading.specs.declared.Line.{Line}
 use Rattle.text_reading.specs.declared.Scan.{Scan}
-use Rattle.text_reading.specs.Scanning.{noLine, withNumber, withLine, lineSpoiled, endLine, step, start, scanned, found, scan}
+use Rattle.text_reading.specs.Scanning.{noLine, withNumber, withLine, endsWrong, endLine, step, start, found, scanReply}
 
-module _ (s : Scan) (l : Line) (test : Bool) (ended : l ≡ withNumber (s .current)) (tested : test ≡ lineSpoiled (s .line) (s .table .count) l) where
+module _ (s : Scan) (l : Line) (test : Bool) (ended : l ≡ withNumber (s .current)) (tested : test ≡ endsWrong (s .line) (s .table .count) l) where
   -- a line that is wrong
   pub line-refused : test ≡ true → record { line = s .line; wrong = s .line; table = s .table; current = s .current } ≡ endLine s
   unfolding endLine
   line-refused e =
-      sym (pick-true _ _ _ (ap (λ (k : Line). lineSpoiled (s .line) (s .table .count) k) (sym ended) ∙ (sym tested ∙ e)))
+      sym (pick-true _ _ _ (ap (λ (k : Line). endsWrong (s .line) (s .table .count) k) (sym ended) ∙ (sym tested ∙ e)))
 
   -- a line that is not
   pub line-taken : (t : Table) (n : Line) → t ≡ withLine (s .table) (s .line) (l .numbers) → n ≡ noLine → test ≡ false
@@ -31,7 +31,7 @@ module _ (s : Scan) (l : Line) (test : Bool) (ended : l ≡ withNumber (s .curre
   unfolding endLine
   line-taken t n filled none e =
       rw (filled, none, ended)
-      (sym (pick-false _ _ _ (ap (λ (k : Line). lineSpoiled (s .line) (s .table .count) k) (sym ended) ∙ (sym tested ∙ e))))
+      (sym (pick-false _ _ _ (ap (λ (k : Line). endsWrong (s .line) (s .table .count) k) (sym ended) ∙ (sym tested ∙ e))))
 
 -- a byte passes at most one line
 pub step-line : (s : Scan) (byte : ℕ) → step s byte .line ≤ s .line + 1
@@ -41,7 +41,7 @@ step-line s byte =
     (λ a.
     pick-cases (λ (r : Scan). r .line ≤ s .line + 1) (eqb byte newline)
     (λ b.
-    pick-cases (λ (r : Scan). r .line ≤ s .line + 1) (lineSpoiled (s .line) (s .table .count) (withNumber (s .current))) (λ d. omega arith)
+    pick-cases (λ (r : Scan). r .line ≤ s .line + 1) (endsWrong (s .line) (s .table .count) (withNumber (s .current))) (λ d. omega arith)
     (λ d. omega arith))
     (λ b. omega arith))
     (λ a. omega arith)
@@ -50,7 +50,7 @@ step-line s byte =
 pub record Scanned (text : List ℕ) (i : ℕ) (s : Scan) : Type 0 where
   pub within-is : i ≤ length text
   pub line-is : s .line ≤ i + 1
-  pub left : scanned s (drop i text) ≡ scanned start text
+  pub left : foldl step s (drop i text) ≡ foldl step start text
 
 pub scan-start : (text : List ℕ) (s : Scan) → s ≡ start → Scanned text 0 s
 unfolding start
@@ -58,7 +58,6 @@ scan-start text s e = record { within-is = omega arith; line-is = omega (arith, 
 
 pub scan-next : (text : List ℕ) (i : ℕ) (s next : Scan) → i < length text → next ≡ step s (getD text i 0) → Scanned text i s
     → Scanned text (i + 1) next
-unfolding scanned
 scan-next text i s next l e h =
     record {
       within-is = omega arith;
@@ -66,22 +65,21 @@ scan-next text i s next l e h =
       left = rw (e, add-one i) (rw (drop-cons text i 0 l) at (h .left));
     }
 
-pub scan-end : (text : List ℕ) (i : ℕ) (s : Scan) → length text ≤ i → Scanned text i s → s ≡ scanned start text
-unfolding scanned
+pub scan-end : (text : List ℕ) (i : ℕ) (s : Scan) → length text ≤ i → Scanned text i s → s ≡ foldl step start text
 scan-end text i s l h = rw (drop-of-length-le text l) at (h .left)
 
-module _ (text : List ℕ) (s ended closed : Scan) (whole : s ≡ scanned start text) (first : ended ≡ step s newline) (second : closed ≡ step ended newline) where
+module _ (text : List ℕ) (s ended closed : Scan) (whole : s ≡ foldl step start text) (first : ended ≡ step s newline) (second : closed ≡ step ended newline) where
   -- the scan after the two newlines that follow the text
-  closed-is : closed ≡ step (step (scanned start text) newline) newline
+  closed-is : closed ≡ step (step (foldl step start text) newline) newline
   closed-is = second ∙ ap (λ (x : Scan). step x newline) (first ∙ ap (λ (x : Scan). step x newline) whole)
 
   -- a text with a wrong line
   pub text-refused : (d : ℕ) (t : Table) → (closed .wrong ≡ 0 → ⊥) → d ≡ due (closed .wrong) (closed .table .count) → t ≡ noTable
-      → record { line = closed .wrong; due = d; table = t } ≡ scan text
-  unfolding scan found
+      → record { line = closed .wrong; due = d; table = t } ≡ scanReply text
+  unfolding scanReply found
   text-refused d t n h e = rw (← closed-is, e, h, ne-eqb (closed .wrong) 0 n)
 
   -- a text with none
-  pub text-taken : closed .wrong ≡ 0 → record { line = 0; due = 0; table = closed .table } ≡ scan text
-  unfolding scan found
+  pub text-taken : closed .wrong ≡ 0 → record { line = 0; due = 0; table = closed .table } ≡ scanReply text
+  unfolding scanReply found
   text-taken e = rw (← closed-is, e)

@@ -1,7 +1,7 @@
 -- For the proofs of text_reading's code alone: a text read byte by byte.
 use Prim.Native.Nat.{ℕ, _+_, _-_, _*_}
 use mathlib.Core.Bool.{Bool, true, false, not}
-use mathlib.Core.List.{List, [], _∷_}
+use mathlib.Core.List.{List, foldl}
 use lib.Dec.{leb, ltb, eqb}
 use lib.ListN.{getD, set, replicate}
 use Rattle.base.specs.Limits.{maxTasks}
@@ -19,28 +19,28 @@ use Rattle.text_reading.specs.declared.Scan.{Scan}
 unfoldable pub noLine : Line
 noLine = record { bad = false; seen = 0; numbers = replicate 4 0; reading = false; value = 0 }
 
--- the line has what no line may have
-unfoldable pub spoiled : Line → Line
-spoiled l = record { bad = true; seen = l .seen; numbers = l .numbers; reading = l .reading; value = l .value }
+-- the line with a fault: it has what no line may have
+unfoldable pub withFault : Line → Line
+withFault l = record { bad = true; seen = l .seen; numbers = l .numbers; reading = l .reading; value = l .value }
 
--- a digit more of the number being read; a number above 999,999,999 spoils the line
+-- a digit more of the number being read; a number above 999,999,999 is a fault
 unfoldable pub withDigit : Line → ℕ → Line
 withDigit l digit =
-    pick (ltb 99_999_999 (l .value)) (spoiled l)
+    pick (ltb 99_999_999 (l .value)) (withFault l)
     (record { bad = l .bad; seen = l .seen; numbers = l .numbers; reading = true; value = 10 * l .value + digit })
 
--- the number being read, where there is one, is the line's next; a fifth spoils the line
+-- the number being read, where there is one, is the line's next; a fifth is a fault
 unfoldable pub withNumber : Line → Line
 withNumber l =
     pick (l .reading)
     (pick (ltb (l .seen) 4)
     (record { bad = l .bad; seen = l .seen + 1; numbers = set (l .numbers) (l .seen) (l .value); reading = false; value = 0 })
-    (spoiled l))
+    (withFault l))
     l
 
--- a byte more of the line, which is no newline: a digit, a blank, or another byte, which spoils the line
+-- a byte more of the line, which is no newline: a digit, a blank, or another byte, which is a fault
 unfoldable pub withByte : Line → ℕ → Line
-withByte l byte = pick (isDigit byte) (withDigit l (byte - digit 0)) (pick (isBlank byte) (withNumber l) (spoiled l))
+withByte l byte = pick (isDigit byte) (withDigit l (byte - digit 0)) (pick (isBlank byte) (withNumber l) (withFault l))
 
 -- what a table holds once a line is read: line 1 gives task count, p and q, and line k + 2 gives the task at position k.
 -- Places there are 64: a task beyond them is not kept, and the count tells of it.
@@ -51,13 +51,14 @@ withLine t line numbers =
     (record { count = t .count; p = t .p; q = t .q; tasks = set (t .tasks) (line - 2) (taskOf numbers) })
     t)
 
--- the line ends: it is wrong where it is spoiled or has not as many numbers as are due; else its numbers go into the table
-unfoldable pub lineSpoiled : ℕ → ℕ → Line → Bool
-lineSpoiled line count l = or (l .bad) (not (eqb (l .seen) (due line count)))
+-- a line that ends is wrong: it has a fault, or has not as many numbers as are due
+unfoldable pub endsWrong : ℕ → ℕ → Line → Bool
+endsWrong line count l = or (l .bad) (not (eqb (l .seen) (due line count)))
 
+-- the line being read ends: where it is not wrong, its numbers go into the table
 unfoldable pub endLine : Scan → Scan
 endLine s =
-    pick (lineSpoiled (s .line) (s .table .count) (withNumber (s .current)))
+    pick (endsWrong (s .line) (s .table .count) (withNumber (s .current)))
     (record { line = s .line; wrong = s .line; table = s .table; current = s .current })
     (record { line = s .line + 1; wrong = 0; table = withLine (s .table) (s .line) (withNumber (s .current) .numbers); current = noLine })
 
@@ -69,13 +70,9 @@ step s byte =
     (record { line = s .line; wrong = 0; table = s .table; current = withByte (s .current) byte }))
     s
 
--- the bytes of a text one after another, from line 1 on
+-- nothing was read yet: line 1 comes next
 unfoldable pub start : Scan
 start = record { line = 1; wrong = 0; table = noTable; current = noLine }
-
-unfoldable pub scanned : Scan → List ℕ → Scan
-scanned s [] = s
-scanned s (byte ∷ text) = scanned (step s byte) text
 
 -- what is found at the end: the table, or the first wrong line
 unfoldable pub found : Scan → Parsed
@@ -83,5 +80,5 @@ found s = pick (eqb (s .wrong) 0) (rightTable (s .table)) (wrongLine (s .wrong) 
 
 -- a text is read as if two newlines followed it: the first ends a line that lacks its newline, and the second makes a blank line, which is
 -- wrong where a line is missing
-unfoldable pub scan : List ℕ → Parsed
-scan text = found (step (step (scanned start text) newline) newline)
+unfoldable pub scanReply : List ℕ → Parsed
+scanReply text = found (step (step (foldl step start text) newline) newline)

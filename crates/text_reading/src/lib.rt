@@ -3,8 +3,8 @@ ghost use mathlib.Core.Path.{_≡_};
 ghost use Prim.Native.Nat.{_+_, _^_, _<_};
 ghost use Rattle.table.specs.Tables.{taskOf};
 ghost use Rattle.lines.specs.Splitting.{isBlank, isDigit};
-ghost use Rattle.table_text.specs.TableText.{due, parsed, aboutTask, refusedLine};
-ghost use Rattle.text_reading.specs.Scanning.{noLine, spoiled, withDigit, withNumber, withByte, withLine, lineSpoiled, endLine, step, start};
+ghost use Rattle.table_text.specs.TableText.{due, parseReply, aboutTask, refusedLine};
+ghost use Rattle.text_reading.specs.Scanning.{noLine, withFault, withDigit, withNumber, withByte, withLine, endsWrong, endLine, step, start};
 use base::MAX_TASKS;
 use lines::NEWLINE;
 use lines::NINE;
@@ -27,7 +27,7 @@ const LAST_TENTH: u32 = 99_999_999;
 
 // What was read of a line.
 struct Line {
-    // It has what no line may have.
+    // It has a fault: what no line may have.
     pub bad: bool,
     // How many numbers it has so far, and these.
     pub seen: usize,
@@ -83,9 +83,9 @@ impl Line {
         }
     }
 
-    // The line with what no line may have.
-    fn spoil(self) -> Line
-        ensures { λ r. ⌜ r ≡ spoiled self ⌝ }
+    // The line with a fault.
+    fn with_fault(self) -> Line
+        ensures { λ r. ⌜ r ≡ withFault self ⌝ }
     {
         let mut line = self;
         line.bad = true;
@@ -98,7 +98,7 @@ impl Line {
         ensures { λ r. ⌜ r ≡ withDigit self digit ⌝ }
     {
         if LAST_TENTH < self.value {
-            return self.spoil();
+            return self.with_fault();
         }
         let mut line = self;
         line.reading = true;
@@ -115,7 +115,7 @@ impl Line {
         }
         let seen = self.seen;
         if LINE_NUMBERS <= seen {
-            return self.spoil();
+            return self.with_fault();
         }
         let mut line = self;
         line.seen = seen + 1;
@@ -135,7 +135,7 @@ impl Line {
         if is_blank(byte) {
             return self.with_number();
         }
-        self.spoil()
+        self.with_fault()
     }
 }
 
@@ -152,9 +152,9 @@ fn numbers_due(line: usize, count: u32) -> usize
     0
 }
 
-// A line that ended is wrong: it is spoiled, or has not as many numbers as are due.
-fn is_wrong(line: usize, count: u32, ended: Line) -> bool
-    ensures { λ r. ⌜ r ≡ lineSpoiled line count ended ⌝ }
+// A line that ended is wrong: it has a fault, or has not as many numbers as are due.
+fn ends_wrong(line: usize, count: u32, ended: Line) -> bool
+    ensures { λ r. ⌜ r ≡ endsWrong line count ended ⌝ }
 {
     if ended.bad {
         return true;
@@ -211,7 +211,7 @@ impl Scan {
         }
     }
 
-    // The line being read ends: it is wrong where it has not as many numbers as are due, and else its numbers go into the table.
+    // The line being read ends: it is wrong where it has a fault or not as many numbers as are due, and else its numbers go into the table.
     fn end_line(self) -> Scan
         requires { ⌜ self .line + 1 < 2 ^ 64 ⌝ }
         ensures { λ r. ⌜ r ≡ endLine self ⌝ }
@@ -219,7 +219,7 @@ impl Scan {
         let table = self.table;
         let current = self.current;
         let ended = current.with_number();
-        if is_wrong(self.line, table.count, ended) {
+        if ends_wrong(self.line, table.count, ended) {
             let mut refused = self;
             refused.wrong = self.line;
             return refused;
@@ -261,7 +261,7 @@ impl Scan {
 // A text of any bytes: its first wrong line, or its table. The end counts as two newlines, of which the first ends a line that lacks its own,
 // and the second makes a blank line, which is wrong where a line is missing.
 pub fn parse(text: &[u8]) -> Parsed
-    ensures { λ r. ⌜ r ≡ parsed (now (text .entry)) ⌝ }
+    ensures { λ r. ⌜ r ≡ parseReply (now (text .entry)) ⌝ }
 {
     let mut scan = Scan::new();
     let mut i: usize = 0;

@@ -1,5 +1,5 @@
 -- `bits::field_at` meets its contract: the number of eight bytes, shifted up to the field's first bit and down to its last, and the bits of the ninth
--- byte behind it where the field reaches so far. Assumes nothing.
+-- byte behind it where the field reaches so far.
 use Prim.Native.Nat.{_+_, _-_, _*_, _/_, _%_, _^_, _<_}
 use mathlib.Core.Path.{_≡_}
 use borrow.Author.Needs.{needs}
@@ -10,8 +10,8 @@ use Rattle.bits.proofs.ByteLaws.{eight-hold, nine-hold, field-small}
 use Rattle.bits.proofs.field_at.Statement.{statement}
 use Rattle.bits.proofs.field_at.Tie as tie
 
-eight-requires : tie.Need-eight-requires
-eight-requires c κs = search needs
+eight-bytes-requires : tie.Need-eight-bytes-requires
+eight-bytes-requires c κs = search needs
 
 cast-front : tie.Need-cast-front
 cast-front c = search needs
@@ -40,7 +40,7 @@ add-end c = search needs
 returns : tie.Need-returns
 returns c =
     let a = c .before .before .before .args in
-    rw (c .before .eight .ensures) (eight-hold (a .file .now) (a .at) (a .width) (omega arith))
+    rw (c .before .eight-bytes .ensures) (eight-hold (a .file .now) (a .at) (a .width) (omega arith))
 
 add-long : tie.Need-add-long
 add-long c = search needs
@@ -65,13 +65,13 @@ shr-result c = search needs
 
 -- All nine bytes together are the field.
 nine : (c : tie.After-long)
-    → (c .before .before .before .eight .result * 2 ^ (c .before .before .before .before .before .args .at % 8)) % 18446744073709551616 / 2 ^ (64 - c .before .before .before .before .before .args .width)
+    → (c .before .before .before .eight-bytes .result * 2 ^ (c .before .before .before .before .before .args .at % 8)) % 18446744073709551616 / 2 ^ (64 - c .before .before .before .before .before .args .width)
     + c .long .result / 2 ^ (72 - (c .before .before .before .before .before .args .at % 8 + c .before .before .before .before .before .args .width))
     ≡ field (c .before .before .before .before .before .args .file .now) (c .before .before .before .before .before .args .at) (c .before .before .before .before .before .args .width)
 nine c =
     let a = c .before .before .before .before .before .args in
     let byte : getD (a .file .now) (a .at / 8 + 8) 0 < 256 = omega (arith, c .before .shared-slice-known2 .given (a .at / 8 + 8)) in
-    rw (c .before .before .before .eight .ensures, c .long .ensures) (nine-hold (a .file .now) (a .at) (a .width) byte (omega arith) (omega arith))
+    rw (c .before .before .before .eight-bytes .ensures, c .long .ensures) (nine-hold (a .file .now) (a .at) (a .width) byte (omega arith) (omega arith))
 
 add-result : tie.Need-add-result
 add-result c =
@@ -85,7 +85,7 @@ pub field-at-spec : {M : Type 1} → statement M
 field-at-spec =
     tie.close
     (tie.spec
-    eight-requires
+    eight-bytes-requires
     cast-front
     cast-front-2
     shl-front

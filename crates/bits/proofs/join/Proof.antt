@@ -1,4 +1,4 @@
--- `bits::join` meets its contract: nothing is lost, and the sum fits. Assumes nothing.
+-- `bits::join` meets its contract: nothing is lost, and the sum fits.
 use native.Mathlib.Omega.{arith}
 use borrow.Author.Needs.{needs}
 use Rattle.bits.proofs.ByteLaws.{one-shl-pos, join-is, join-lt}

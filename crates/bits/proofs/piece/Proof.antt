@@ -1,4 +1,4 @@
--- `bits::piece` meets its contract: the field is a part of one byte. Assumes nothing.
+-- `bits::piece` meets its contract: the field is a part of one byte.
 use Prim.Native.Nat.{_/_, _<_}
 use mathlib.Core.Path.{sym}
 use borrow.Author.Needs.{needs}

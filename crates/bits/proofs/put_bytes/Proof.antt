@@ -1,4 +1,4 @@
--- `bits::put_bytes` meets its contract. The loop's invariant: the bits that are left, put from byte `k` on, come to the whole. Assumes nothing.
+-- `bits::put_bytes` meets its contract. The loop's invariant: the bits that are left, put from byte `k` on, come to the whole.
 use Prim.Native.Nat.{_+_, _*_, _≤_}
 use mathlib.Core.Path.{_≡_, refl, _∙_}
 use native.Mathlib.Omega.{arith}

@@ -1,4 +1,4 @@
--- `bits::put_piece` meets its contract: the bits kept of the byte, with the new ones behind them, shifted up stay a byte. Assumes nothing.
+-- `bits::put_piece` meets its contract: the bits kept of the byte, with the new ones behind them, shifted up stay a byte.
 use Prim.Native.Nat.{ℕ, suc, _+_, _-_, _*_, _/_, _%_, _≤_, _<_}
 use mathlib.Core.List.{List}
 use mathlib.Core.Path.{_≡_, sym}

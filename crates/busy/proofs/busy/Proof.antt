@@ -1,4 +1,4 @@
--- `busy::busy` meets its contract: it is `busy_held` of the runs' columns.
+-- `busy::busy` meets its contract: it is `busy_copied` of the runs' columns.
 use mathlib.Core.Path.{_≡_}
 use base.Logic.{sep}
 use contract.Monad.{fact}
@@ -11,8 +11,8 @@ use Rattle.schedule.proofs.Busy as mBusy
 use Rattle.schedule.proofs.Busy.Laws as mBusy′
 use Rattle.records.proofs.Walking.{both-so}
 use Rattle.records.proofs.ThinCalls.{thin-keeps}
-use Rattle.busy.proofs.busy_held.Symbol as h-def
-use Rattle.busy.proofs.busy_held.Met as h-thm
+use Rattle.busy.proofs.busy_copied.Symbol as h-def
+use Rattle.busy.proofs.busy_copied.Met as h-thm
 use Rattle.busy.proofs.busy.Key.{name as #key}
 use Rattle.busy.proofs.busy.Statement as stated
 use Rattle.busy.proofs.busy.Code as code
@@ -24,5 +24,5 @@ busy-spec 𝓤 H 𝓜 𝓖 𝓡 =
     (λ runs ab. busyReply runs (ab .0) (ab .1 .0)) (λ ab. busy-many (ab .0) (ab .1 .0))
     (λ runs ab r. sep 𝓤 (fact 𝓤 (r ≡ busyReply runs (ab .0) (ab .1 .0))) (fact 𝓤 (CountsTicks runs (ab .0) (ab .1 .0) r)))
     (λ runs ab r e. both-so 𝓤 (r ≡ busyReply runs (ab .0) (ab .1 .0)) (CountsTicks runs (ab .0) (ab .1 .0) r) e (counts-ticks runs (ab .0) (ab .1 .0) r e))
-    code.env code.calls-records·columns-of h-def.name h-def.routine code.calls-busy·busy-held (h-thm.met 𝓤 H 𝓜 𝓖 𝓡)
+    code.env code.calls-records·columns-of h-def.name h-def.routine code.calls-busy·busy-copied (h-thm.met 𝓤 H 𝓜 𝓖 𝓡)
     #key (code.unfolded 𝓤 H 𝓜 𝓡)

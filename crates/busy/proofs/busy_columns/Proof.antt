@@ -1,6 +1,6 @@
 -- `busy::busy_columns` meets its contract: what the check refuses, or the sum. The loop's invariant: the ticks counted and the sum over the runs that are
 -- left are together the sum over all runs. No sum wraps: the sum over an accepted list is at most the interval's ticks.
-use Prim.Native.Nat.{ℕ, _+_, _*_, _^_, _-_, _≤_, _<_}
+use Prim.Native.Nat.{ℕ, _+_, _-_, _≤_, _<_}
 use mathlib.Core.Path.{_≡_, _∙_, sym}
 use mathlib.Core.Bool.{false}
 use mathlib.Core.List.{List}
@@ -13,8 +13,8 @@ use Rattle.base.proofs.PlaceLaws.{left-start, left-step, left-end}
 use Rattle.schedule.specs.declared.Run.{Run}
 use Rattle.schedule.specs.declared.RunsAnswer.{RunsAnswer}
 use Rattle.schedule.specs.declared.RunsAnswer.the-variants as checked
-use Rattle.schedule.specs.Runs.{runAt, runsOf}
-use Rattle.schedule.specs.RunCheck.{runsAnswer, runsNumber, runsPlace, runsAccepted}
+use Rattle.schedule.specs.Runs.{runAtIndex, runsOf, sumRuns}
+use Rattle.schedule.specs.RunCheck.{checkAnswer, runsNumber, runsPlace, runsAccepted}
 use Rattle.schedule.specs.BusyCount.{shared, busySum, busyReply}
 use Rattle.schedule.proofs.BusyLaws.{sum-most}
 use Rattle.checking.proofs.OrderLaws.{told-refused, columns-few}
@@ -24,7 +24,7 @@ use Rattle.busy.proofs.busy_columns.Tie as tie
 module _ (starts ends tasks : List ℕ) (a b : ℕ) where
   -- the sum over the runs from index i on
   unfoldable sumFrom : ℕ → ℕ
-  sumFrom i = busySum a b (placesFrom (runAt starts ends tasks) i (length starts - i))
+  sumFrom i = busySum a b (placesFrom (runAtIndex starts ends tasks) i (length starts - i))
 
   -- `ticks` are the sum over the runs below index i
   abbrev Counted : ℕ → ℕ → Type 0
@@ -40,25 +40,25 @@ module _ (starts ends tasks : List ℕ) (a b : ℕ) where
       r ≡ shared a b (record { start = getD starts i 0; end = getD ends i 0; task = 0 }) →
       Counted ticks i →
       Counted (ticks + r) (i + 1)
-  unfolding sumFrom runAt shared busySum
+  unfolding sumFrom runAtIndex shared sumRuns
   sum-step ticks i r l e h =
-      let left = rw (left-step (runAt starts ends tasks) (length starts) i l) at h in
+      let left = rw (left-step (runAtIndex starts ends tasks) (length starts) i l) at h in
       omega arith
 
   sum-end : (ticks i : ℕ) → length starts ≤ i → Counted ticks i → ticks ≡ busySum a b (runsOf starts ends tasks)
-  unfolding sumFrom busySum
+  unfolding sumFrom sumRuns
   sum-end ticks i l h =
-      let none = rw (left-end (runAt starts ends tasks) (length starts) i l) at h in
+      let none = rw (left-end (runAtIndex starts ends tasks) (length starts) i l) at h in
       omega arith
 
 module _ (runs : List Run) (a b : ℕ) where
   -- the two replies: what the check refuses, and the sum
-  reply-refused : (answer : RunsAnswer) (number place : ℕ) → answer ≡ runsAnswer runs → runsAccepted answer ≡ false
+  reply-refused : (answer : RunsAnswer) (number place : ℕ) → answer ≡ checkAnswer runs → runsAccepted answer ≡ false
       → number ≡ runsNumber answer → place ≡ runsPlace answer → record { number = number; place = place; ticks = 0 } ≡ busyReply runs a b
   unfolding busyReply
   reply-refused answer number place e bad n p = rw (n, p, ← e, bad)
 
-  reply-sum : (ticks : ℕ) → runsAnswer runs ≡ checked.Accepted → ticks ≡ busySum a b runs → record { number = 0; place = 0; ticks = ticks } ≡ busyReply runs a b
+  reply-sum : (ticks : ℕ) → checkAnswer runs ≡ checked.Accepted → ticks ≡ busySum a b runs → record { number = 0; place = 0; ticks = ticks } ≡ busyReply runs a b
   unfolding busyReply
   reply-sum ticks accepted h = rw (accepted, h)
 
@@ -76,7 +76,7 @@ abbrev μ-loop : tie.MeasureT-loop
 -- past the `let .. else` the list is accepted
 accepted : (c : tie.After-enum-told Inv-loop μ-loop) →
     let args = c .before .before .before .before .before .before .args in
-    runsAnswer (runsOf (args .starts .now) (args .ends .now) (args .tasks .now)) ≡ checked.Accepted
+    checkAnswer (runsOf (args .starts .now) (args .ends .now) (args .tasks .now)) ≡ checked.Accepted
 accepted c = sym (c .before .before .check .ensures _) ∙ c .enum-told .given .1
 
 check-requires : tie.Need-check-requires Inv-loop μ-loop

@@ -1,9 +1,8 @@
 -- `checking::check` meets its contract: 13 by the number of starts, then 15 by the first index that is out of order.
-use Prim.Native.Nat.{ℕ, _≤_, _<_}
+use Prim.Native.Nat.{ℕ}
 use mathlib.Core.Path.{_≡_, sym, ap, _∙_}
 use mathlib.Core.Bool.{Bool, true, false}
 use mathlib.Core.List.{List}
-use native.Mathlib.Omega.{arith}
 use borrow.Author.Needs.{needs}
 use borrow.Author.Tests.{ltb-true, ltb-false}
 use lib.Dec.{ltb}
@@ -11,10 +10,10 @@ use lib.ListN.{length}
 use Rattle.base.specs.Limits.{maxRuns}
 use Rattle.schedule.specs.declared.RunsAnswer.the-variants as checked
 use Rattle.schedule.specs.Runs.{tooMany, runsOf}
-use Rattle.schedule.specs.RunCheck.{firstOutOfOrder, runsAnswer}
+use Rattle.schedule.specs.RunCheck.{firstOutOfOrder, checkAnswer}
 use Rattle.base.specs.Lowest.{someBelow}
-use Rattle.checking.specs.SomeBroken.{anyOutOfOrder}
-use Rattle.schedule.proofs.ColumnLaws.{columns-length, columns-many}
+use Rattle.checking.specs.SomeOutOfOrder.{someOutOfOrder}
+use Rattle.schedule.proofs.ColumnLaws.{columns-many}
 use Rattle.schedule.proofs.CheckLaws.{many-refused, order-refused, accepts}
 use Rattle.checking.proofs.check.Statement.{statement}
 use Rattle.checking.proofs.check.Tie as tie
@@ -24,18 +23,18 @@ module _ (starts ends tasks : List ℕ) (many : Bool) (m : many ≡ ltb maxRuns 
   many-is : tooMany (runsOf starts ends tasks) ≡ many
   many-is = columns-many starts ends tasks ∙ sym m
 
-  says-many : many ≡ true → checked.TooMany ≡ runsAnswer (runsOf starts ends tasks)
+  says-many : many ≡ true → checked.TooMany ≡ checkAnswer (runsOf starts ends tasks)
   says-many e = sym (many-refused (runsOf starts ends tasks) (many-is ∙ e))
 
-  module _ (few : many ≡ false) (some : Bool) (b : some ≡ anyOutOfOrder (runsOf starts ends tasks)) where
+  module _ (few : many ≡ false) (some : Bool) (b : some ≡ someOutOfOrder (runsOf starts ends tasks)) where
     says-order : (first : ℕ) → first ≡ firstOutOfOrder (runsOf starts ends tasks) → some ≡ true
-        → checked.OutOfOrder first ≡ runsAnswer (runsOf starts ends tasks)
+        → checked.OutOfOrder first ≡ checkAnswer (runsOf starts ends tasks)
     unfolding someBelow firstOutOfOrder
     says-order first f e =
         let runs = runsOf starts ends tasks in
         sym (order-refused runs (many-is ∙ few) (ltb-true (firstOutOfOrder runs) (length runs) (sym b ∙ e)) ∙ ap checked.OutOfOrder (sym f))
 
-    says-accepted : some ≡ false → checked.Accepted ≡ runsAnswer (runsOf starts ends tasks)
+    says-accepted : some ≡ false → checked.Accepted ≡ checkAnswer (runsOf starts ends tasks)
     unfolding someBelow firstOutOfOrder
     says-accepted e =
         let runs = runsOf starts ends tasks in

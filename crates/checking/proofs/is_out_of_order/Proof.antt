@@ -1,13 +1,12 @@
 -- `checking::is_out_of_order` meets its contract.
 use Prim.Native.Nat.{ℕ}
-use mathlib.Core.Path.{_≡_, ap, _∙_}
+use mathlib.Core.Path.{_≡_, ap}
 use mathlib.Core.Bool.{Bool, not}
 use native.Mathlib.Omega.{arith}
 use native.Mathlib.Decide.{decLt}
 use lib.Dec.{leb, ltb}
 use borrow.Author.Tests.{lt-ltb, le-ltb, le-leb, lt-leb}
 use Rattle.base.specs.Tests.{or}
-use Rattle.base.proofs.TestLaws.{or-is}
 use Rattle.checking.proofs.is_out_of_order.Statement.{statement}
 use Rattle.checking.proofs.is_out_of_order.Tie as tie
 
@@ -24,7 +23,7 @@ returns c =
     let start = c .args .start in
     let end = c .args .end in
     let early = ltb start (c .args .previous) in
-    or-is (leb end start) early ∙ ap (λ (empty : Bool). or empty early) (at-most start end)
+    ap (λ (empty : Bool). or empty early) (at-most start end)
 
 pub is-out-of-order-spec : {M : Type 1} → statement M
 is-out-of-order-spec = tie.close (tie.spec returns)

@@ -8,15 +8,14 @@ use borrow.Author.Needs.{needs}
 use lib.ListN.{length}
 use Rattle.base.specs.Tests.{or}
 use Rattle.base.specs.Lowest.{someBelow}
-use Rattle.base.proofs.TestLaws.{or-is}
 use Rattle.base.proofs.LowestLaws.{some-none, some-more}
-use Rattle.checking.proofs.OrderLaws.{endBefore, broken, broken-tested, broken-some}
+use Rattle.checking.proofs.OrderLaws.{endBefore, outOfOrderIn, out-tested, out-some}
 use Rattle.checking.proofs.some_out_of_order.Statement.{statement}
 use Rattle.checking.proofs.some_out_of_order.Tie as tie
 
 abbrev Inv-loop : tie.InvT-loop
 Inv-loop starts ends flag₀ previous₀ i₀ flag previous i =
-    (i ≤ length starts) × (flag ≡ someBelow (broken starts ends) i) × (previous ≡ endBefore ends i)
+    (i ≤ length starts) × (flag ≡ someBelow (outOfOrderIn starts ends) i) × (previous ≡ endBefore ends i)
 
 abbrev μ-loop : tie.MeasureT-loop
 μ-loop starts ends flag₀ previous₀ i₀ flag previous i = length starts - i
@@ -49,15 +48,14 @@ loop-again : tie.Need-loop-again Inv-loop μ-loop
 loop-again c =
     let l = c .before .before .before .before .loop in (
       omega arith,
-      or-is (l .broken) (c .is-out-of-order .result)
-          ∙ (ap₂ or (l .inv .1) (c .is-out-of-order .ensures ∙ broken-tested _ _ (l .i) (l .previous) (l .inv .2)) ∙ sym (some-more _ (l .i))),
+      ap₂ or (l .inv .1) (c .is-out-of-order .ensures ∙ out-tested _ _ (l .i) (l .previous) (l .inv .2)) ∙ sym (some-more _ (l .i)),
       rw add-one,
     )
 
 returns : tie.Need-returns Inv-loop μ-loop
 returns c tasks =
     let all : c .before .loop .i ≡ length (c .before .before .before .before .args .starts .now) = omega arith in
-    (rw all at (c .before .loop .inv .1)) ∙ broken-some _ _ tasks
+    (rw all at (c .before .loop .inv .1)) ∙ out-some _ _ tasks
 
 pub some-out-of-order-spec : {M : Type 1} → statement M
 some-out-of-order-spec =

@@ -2,8 +2,8 @@
 use mathlib.Core.Path.{refl, _∙_}
 use native.Mathlib.Omega.{arith}
 use borrow.Author.Needs.{needs}
-use Rattle.base.specs.Places.{firstPlaces}
-use Rattle.schedule.specs.Jobs.{noJob}
+use Rattle.base.specs.Arrays.{firstPlaces}
+use Rattle.schedule.specs.JobArrays.{noJob}
 use Rattle.choice.proofs.BuildLaws.{outermost-small, most-best, Gives, best-gives}
 use Rattle.choosing.proofs.choose.Statement.{statement}
 use Rattle.choosing.proofs.choose.Tie as tie

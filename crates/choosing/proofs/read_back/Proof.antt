@@ -5,8 +5,8 @@ use mathlib.Core.Path.{_∙_}
 use native.Mathlib.Omega.{arith}
 use borrow.Author.Needs.{needs}
 use lib.ListN.{getD}
-use Rattle.base.specs.Places.{firstPlaces}
-use Rattle.schedule.specs.Jobs.{noJob}
+use Rattle.base.specs.Arrays.{firstPlaces}
+use Rattle.schedule.specs.JobArrays.{noJob}
 use Rattle.choice.specs.Decisions.{backOf}
 use Rattle.choice.proofs.BackLaws.{Walked, walked-start, walked-decision, walked-kept, walked-discarded, walked-end}
 use Rattle.choosing.proofs.read_back.Statement.{statement}

@@ -5,7 +5,7 @@ use native.Mathlib.Omega.{arith}
 use borrow.Author.Needs.{needs}
 use lib.ListN.{length, getD, length-replicate}
 use Rattle.base.proofs.PlaceLaws.{left-start}
-use Rattle.schedule.specs.Jobs.{noJob, Bounded}
+use Rattle.schedule.specs.JobArrays.{noJob, Bounded}
 use Rattle.choice.specs.Decisions.{rowPlaces}
 use Rattle.choice.proofs.BuildLaws.{countOne-most, Built, built-start, built-below, mandatory-room, built-step}
 use Rattle.choosing.proofs.rows_of.Statement.{statement}

@@ -1,6 +1,6 @@
 -- `console::put_interval` meets its contract: what the search names in the columns is put, and no run ends after the greatest number of 32 bits.
 use Prim.Native.Nat.{ℕ, _+_, _≤_, _<_, min}
-use mathlib.Core.Path.{_≡_, sym, ap, _∙_}
+use mathlib.Core.Path.{_≡_, ap, _∙_}
 use mathlib.Core.List.{List}
 use native.Mathlib.Omega.{arith}
 use borrow.Author.Needs.{needs}
@@ -96,8 +96,8 @@ put-runs-requires c κs =
     let pre = start there .pre in
     let same = named-length (there .stretch .result) in (
       (
-        same (args .ends .now) (args .starts .now) (sym (pre .0 .0)),
-        same (args .tasks .now) (args .starts .now) (sym (pre .0 .1)),
+        same (args .starts .now) (args .ends .now) (pre .0 .0),
+        same (args .starts .now) (args .tasks .now) (pre .0 .1),
       ),
       rw (part there) (pre .1),
     )

@@ -17,8 +17,8 @@ wrote-requires c κs = search needs
 
 returns : tie.Need-returns
 returns c =
-    let said = file-wrong _ _ _ (c .before .before .parse .ensures) _ (c .before .if1 .taken) (c .wrote .ensures) in
-    (said .0, (said .1, omega (arith, ap (λ (r : Written). r .bytes) (c .wrote .ensures))))
+    let replied = file-wrong _ _ _ (c .before .before .parse .ensures) _ (c .before .if1 .taken) (c .wrote .ensures) in
+    (replied .0, (replied .1, omega (arith, ap (λ (r : Written). r .bytes) (c .wrote .ensures))))
 
 write-requires : tie.Need-write-requires
 write-requires c κs = search needs
@@ -26,8 +26,8 @@ write-requires c κs = search needs
 returns-2 : tie.Need-returns-2
 returns-2 c =
     let found = c .before .before .before .before in
-    let said = file-made _ _ _ (found .parse .ensures) _ _ (c .before .before .before .if1 .left) (c .write .ensures .0) (c .write .ensures .1) in
-    (said .0, (said .1, omega (arith, ap (λ (r : FromText). r .written .bytes) (said .0), file-fits (found .before .before .args .text .now) (length (found .before .before .args .out .now)))))
+    let replied = file-made _ _ _ (found .parse .ensures) _ _ (c .before .before .before .if1 .left) (c .write .ensures .0) (c .write .ensures .1) in
+    (replied .0, (replied .1, omega (arith, ap (λ (r : FromText). r .written .bytes) (replied .0), file-fits (found .before .before .args .text .now) (length (found .before .before .args .out .now)))))
 
 pub from-text-spec : {M : Type 1} → statement M
 from-text-spec =

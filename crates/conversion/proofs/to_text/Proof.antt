@@ -15,8 +15,8 @@ use Rattle.table.proofs.FileLaws.{legal-count}
 use Rattle.table.proofs.RoundTrip.{read-legal, read-answer, read-is}
 use Rattle.table.specs.declared.Written.{Written}
 use Rattle.table_text.specs.TableText.{tableText}
-use Rattle.table_text.specs.Conversions.{textReply, textOver, ShownAgain}
-use Rattle.conversion.proofs.TextReplies.{text-refused, text-short, text-shown, text-kept, text-put, shown-again}
+use Rattle.table_text.specs.Conversions.{textReply, textOver, ShownRestores}
+use Rattle.conversion.proofs.TextReplies.{text-refused, text-short, text-shown, text-kept, text-put, shown-restores}
 use Rattle.table_text.proofs.TextLength.{table-text-length}
 use Rattle.conversion.proofs.to_text.Statement.{statement}
 use Rattle.conversion.proofs.to_text.Tie as tie
@@ -40,8 +40,8 @@ few c =
 clauses : (c : tie.After-shared-slice-known) (reply : Written) (new : List ℕ) → reply ≡ textReply (c .before .args .file .now) (length (c .before .args .out .now))
     → new ≡ textOver (c .before .args .file .now) (c .before .args .out .now)
     → (reply ≡ textReply (c .before .args .file .now) (length (c .before .args .out .now)))
-    × ((new ≡ textOver (c .before .args .file .now) (c .before .args .out .now)) × ShownAgain (c .before .args .file .now) reply new)
-clauses c reply new r e = (r, (e, shown-again (c .before .args .file .now) (c .before .args .out .now) reply new (λ k. omega (arith, c .shared-slice-known .given k)) r e))
+    × ((new ≡ textOver (c .before .args .file .now) (c .before .args .out .now)) × ShownRestores (c .before .args .file .now) reply new)
+clauses c reply new r e = (r, (e, shown-restores (c .before .args .file .now) (c .before .args .out .now) reply new (λ k. omega (arith, c .shared-slice-known .given k)) r e))
 
 read-requires : tie.Need-read-requires
 read-requires c κs = search needs
@@ -94,8 +94,8 @@ returns-3 c =
     let put = c .before .before .before in
     let told = put .before .before .before .before in
     let start = told .before .before .before .before .before in
-    let said = text-put (start .args .file .now) _ _ _ _ _ (text-shown (start .args .file .now) _ (accepted told) (put .before .before .before .if1 .left)) (ap tableText (table-is told)) (put .put-table .ensures) (c .wrote .ensures) in
-    clauses (told .before .before .before .before) _ _ (said .0) (said .1)
+    let put-is = text-put (start .args .file .now) _ _ _ _ _ (text-shown (start .args .file .now) _ (accepted told) (put .before .before .before .if1 .left)) (ap tableText (table-is told)) (put .put-table .ensures) (c .wrote .ensures) in
+    clauses (told .before .before .before .before) _ _ (put-is .0) (put-is .1)
 
 pub to-text-spec : {M : Type 1} → statement M
 to-text-spec =

@@ -5,13 +5,13 @@ use mathlib.Core.Bool.{Bool}
 use borrow.Author.Needs.{needs}
 use Rattle.schedule.specs.declared.Run.{Run}
 use Rattle.schedule.specs.declared.Found.{Found}
-use Rattle.schedule.specs.Queries.{foundNumber, foundPlace, isFound, foundRun}
+use Rattle.schedule.specs.Queries.{foundNumber, foundPlace, isFound, runFound}
 use Rattle.exports.specs.declared.FoundRun.{FoundRun}
 use Rattle.exports.specs.QueryReplies.{foundReply}
 use Rattle.exports.proofs.found_reply.Statement.{statement}
 use Rattle.exports.proofs.found_reply.Tie as tie
 
-reply-is : (answer : Found) (number place : ℕ) (has : Bool) (run : Run) → run ≡ foundRun answer → number ≡ foundNumber answer → place ≡ foundPlace answer
+reply-is : (answer : Found) (number place : ℕ) (has : Bool) (run : Run) → run ≡ runFound answer → number ≡ foundNumber answer → place ≡ foundPlace answer
     → has ≡ isFound answer → _≡_ {A = FoundRun} (record { number = number; place = place; found = has; run = run }) (foundReply answer)
 unfolding foundReply
 reply-is answer number place has run r n p h = rw (r, n, p, h)

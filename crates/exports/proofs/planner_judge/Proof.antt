@@ -1,8 +1,8 @@
--- `exports::planner_judge` meets its contract: it is `judging::judge_held` with the runs' columns.
+-- `exports::planner_judge` meets its contract: it is `judging::judge_copied` with the runs' columns.
 use mathlib.Core.Path.{_≡_}
 use base.Logic.{emp}
 use contract.Monad.{fact, factI}
-use Rattle.schedule.specs.Judging.{judged}
+use Rattle.schedule.specs.Judging.{judgeReply}
 use Rattle.judging.proofs.JudgeCalls.{judge-met}
 use Rattle.exports.proofs.planner_judge.Key.{name as #key}
 use Rattle.exports.proofs.planner_judge.Statement as stated
@@ -11,6 +11,6 @@ use Rattle.exports.proofs.planner_judge.Code as code
 pub planner-judge-spec : {M : Type 1} → stated.statement M
 unfolding code.routine
 planner-judge-spec 𝓤 H 𝓜 𝓖 𝓡 =
-    judge-met 𝓤 H 𝓜 𝓖 𝓡 (λ launch file marks runs r. fact 𝓤 (r ≡ judged launch file marks runs))
-    (λ launch file marks runs r. factI 𝓤 (r ≡ judged launch file marks runs) (emp 𝓤))
-    code.env code.calls-records·columns-of code.calls-judging·judge-held #key (code.unfolded 𝓤 H 𝓜 𝓡)
+    judge-met 𝓤 H 𝓜 𝓖 𝓡 (λ launch file marks runs r. fact 𝓤 (r ≡ judgeReply launch file marks runs))
+    (λ launch file marks runs r. factI 𝓤 (r ≡ judgeReply launch file marks runs) (emp 𝓤))
+    code.env code.calls-records·columns-of code.calls-judging·judge-copied #key (code.unfolded 𝓤 H 𝓜 𝓡)

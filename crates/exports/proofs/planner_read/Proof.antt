@@ -6,11 +6,11 @@ use borrow.Author.Needs.{needs}
 use Rattle.table.specs.declared.Answer.{Answer}
 use Rattle.table.specs.declared.Answer.the-variants.{Accepted}
 use Rattle.table.specs.Answers.{numberOf, placeOf, isAccepted}
-use Rattle.table.specs.Reading.{readAnswer, reading}
+use Rattle.table.specs.Reading.{readAnswer, readReply}
 use Rattle.table.proofs.AnswerLaws.{told-refused}
 use Rattle.reading.proofs.ReadLaws.{head-bits, read-head, table-refused, table-accepted}
 use Rattle.exports.specs.declared.TableRead.{TableRead}
-use Rattle.exports.specs.FileRead.{tableRead}
+use Rattle.exports.specs.FileRead.{readInC}
 use Rattle.exports.proofs.planner_read.Statement.{statement}
 use Rattle.exports.proofs.planner_read.Tie as tie
 
@@ -31,8 +31,8 @@ none-requires c κs = search needs
 
 -- The reply is known by its parts.
 reply-is : (file : List ℕ) (r : TableRead) (answer : Answer) → answer ≡ readAnswer file → r .number ≡ numberOf answer → r .place ≡ placeOf answer
-    → r .table ≡ reading file .table → r ≡ tableRead file
-unfolding tableRead reading
+    → r .table ≡ readReply file .table → r ≡ readInC file
+unfolding readInC readReply
 reply-is file r answer a n p t = λ i. record { number = (n ∙ ap numberOf a) i; place = (p ∙ ap placeOf a) i; table = t i }
 
 returns : tie.Need-returns

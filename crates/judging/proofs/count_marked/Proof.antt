@@ -10,8 +10,9 @@ use lib.Dec.{eqb}
 use lib.ListN.{length, getD}
 use Rattle.base.specs.Tests.{and}
 use Rattle.schedule.specs.declared.Job.{Job}
-use Rattle.schedule.specs.Jobs.{noJob, counts}
-use Rattle.schedule.specs.Ticks.{countBelow}
+use Rattle.schedule.specs.Jobs.{counts}
+use Rattle.schedule.specs.JobArrays.{noJob}
+use Rattle.schedule.specs.Ticks.{countBelow, sumBelow}
 use Rattle.schedule.proofs.TickLaws.{count-passed, count-failed}
 use Rattle.judging.proofs.count_marked.Statement.{statement}
 use Rattle.judging.proofs.count_marked.Tie as tie
@@ -30,7 +31,7 @@ abbrev μ-loop : tie.MeasureT-loop
 μ-loop count marks mark jobs marked₀ k₀ marked k = length marks - k
 
 loop-holds : tie.Need-loop-holds Inv-loop μ-loop
-unfolding countBelow
+unfolding sumBelow
 loop-holds c = omega arith
 
 mul-job : tie.Need-mul-job Inv-loop μ-loop
@@ -53,21 +54,28 @@ loop-less c = omega arith
 
 loop-again : tie.Need-loop-again Inv-loop μ-loop
 loop-again c =
-    let before = c .before .before .before .before .loop .inv in
+    let loop = c .before .before .before .before in
+    let args = loop .before .args in
+    let test = isMarked (args .t1) (args .marks .now) (args .mark) in
+    let k = loop .loop .k in
+    let before = loop .loop .inv in
     ⊎-elim
     (λ w. (
       omega arith,
       omega (arith, w .3),
-      w .3 ∙ (ap (λ (m : ℕ). m + 1) (before .2) ∙ sym (count-passed _ _ (ap₂ and (lt-ltb _ _ (w .0 .taken)) (eq-eqb _ _ (w .2 .taken))))),
+      w .3 ∙ (ap (λ (m : ℕ). m + 1) (before .2) ∙ sym (count-passed test k (ap₂ and (lt-ltb _ _ (w .0 .taken)) (eq-eqb _ _ (w .2 .taken))))),
     ))
     (⊎-elim
     (λ w. (
       omega arith,
       omega (arith, w .3),
-      w .3 ∙ (before .2 ∙ sym (count-failed _ _ (ap₂ and (lt-ltb _ _ (w .0 .taken)) (ne-eqb _ _ (w .2 .left))))),
+      w .3 ∙ (before .2 ∙ sym (count-failed test k (ap₂ and (lt-ltb _ _ (w .0 .taken)) (ne-eqb _ _ (w .2 .left))))),
     ))
-    (λ w.
-    (omega arith, omega (arith, w .1), w .1 ∙ (before .2 ∙ sym (count-failed _ _ (not-counted (c .before .before .before .before .before .args .t1) (c .before .before .before .before .before .args .marks .now) (c .before .before .before .before .before .args .mark) (c .before .before .before .before .loop .k) (w .0 .left)))))))
+    (λ w. (
+      omega arith,
+      omega (arith, w .1),
+      w .1 ∙ (before .2 ∙ sym (count-failed test k (not-counted (args .t1) (args .marks .now) (args .mark) k (w .0 .left)))),
+    )))
     (c .if1 .came)
 
 returns : tie.Need-returns Inv-loop μ-loop

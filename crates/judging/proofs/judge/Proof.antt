@@ -1,8 +1,8 @@
--- `judging::judge` meets its contract: it is `judge_held` with the runs' columns.
+-- `judging::judge` meets its contract: it is `judge_copied` with the runs' columns.
 use base.Logic.{sep}
 use contract.Monad.{fact}
 use mathlib.Core.Path.{_≡_}
-use Rattle.schedule.specs.Judging.{judged, Sound}
+use Rattle.schedule.specs.Judging.{judgeReply, Sound}
 use Rattle.schedule.proofs.VerdictLaws.{sound-of}
 use Rattle.records.proofs.Walking.{both-so}
 use Rattle.judging.proofs.JudgeCalls.{judge-met}
@@ -14,7 +14,7 @@ pub judge-spec : {M : Type 1} → stated.statement M
 unfolding code.routine
 judge-spec 𝓤 H 𝓜 𝓖 𝓡 =
     judge-met 𝓤 H 𝓜 𝓖 𝓡
-    (λ launch file marks runs r. sep 𝓤 (fact 𝓤 (r ≡ judged launch file marks runs)) (fact 𝓤 (Sound launch file marks runs r)))
-    (λ launch file marks runs r e. both-so 𝓤 (r ≡ judged launch file marks runs) (Sound launch file marks runs r) e
+    (λ launch file marks runs r. sep 𝓤 (fact 𝓤 (r ≡ judgeReply launch file marks runs)) (fact 𝓤 (Sound launch file marks runs r)))
+    (λ launch file marks runs r e. both-so 𝓤 (r ≡ judgeReply launch file marks runs) (Sound launch file marks runs r) e
     (sound-of launch file marks runs r e))
-    code.env code.calls-records·columns-of code.calls-judging·judge-held #key (code.unfolded 𝓤 H 𝓜 𝓡)
+    code.env code.calls-records·columns-of code.calls-judging·judge-copied #key (code.unfolded 𝓤 H 𝓜 𝓡)

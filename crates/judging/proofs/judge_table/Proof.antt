@@ -11,12 +11,13 @@ use Rattle.base.specs.Limits.{maxLaunch, maxRuns}
 use Rattle.clock.specs.Clock.{badLaunch}
 use Rattle.table.proofs.FileLaws.{legal-count}
 use Rattle.schedule.specs.declared.Judged.{Judged}
-use Rattle.schedule.specs.Jobs.{noJob, jobAt}
+use Rattle.schedule.specs.Jobs.{jobAt}
+use Rattle.schedule.specs.JobArrays.{noJob}
 use Rattle.schedule.specs.Runs.{tooMany, runsOf}
 use Rattle.schedule.specs.Judging.{verdict, firstBadMark, judgeDeclined}
 use Rattle.schedule.proofs.ColumnLaws.{columns-many}
 use Rattle.schedule.proofs.JobLaws.{legal-period, legal-frames}
-use Rattle.schedule.proofs.VerdictLaws.{pass-verdict, jobs-at, kept-same, discarded-same, launch-refused, length-refused, mark-refused, runs-refused, says-yes, says-no}
+use Rattle.schedule.proofs.VerdictLaws.{pass-verdict, jobs-at, marked-same, launch-refused, length-refused, mark-refused, runs-refused, says-yes, says-no}
 use Rattle.judging.proofs.judge_table.Statement.{statement}
 use Rattle.judging.proofs.judge_table.Tie as tie
 
@@ -118,8 +119,8 @@ returns-5 c =
     let launch = c .before .before .before .before .before .before .before .before .before .before .before .before .before .before .before .before .before .before .args .launch in
     let t = c .before .before .before .before .before .before .before .before .before .before .before .before .before .before .before .before .before .before .args .table in
     let marks = c .before .before .before .before .before .before .before .before .before .before .before .before .before .before .before .before .before .before .args .marks .now in
-    let kept = c .before .before .count-marked .ensures ∙ kept-same launch t marks (λ k. getD (c .before .before .before .before .before .jobs-of .result) k noJob) (jobs (c .before .before .before .before .before)) in
-    let discarded = c .before .count-marked2 .ensures ∙ discarded-same launch t marks (λ k. getD (c .before .before .before .before .before .jobs-of .result) k noJob) (jobs (c .before .before .before .before .before)) in
+    let kept = c .before .before .count-marked .ensures ∙ marked-same 1 launch t marks (λ k. getD (c .before .before .before .before .before .jobs-of .result) k noJob) (jobs (c .before .before .before .before .before)) in
+    let discarded = c .before .count-marked2 .ensures ∙ marked-same 0 launch t marks (λ k. getD (c .before .before .before .before .before .jobs-of .result) k noJob) (jobs (c .before .before .before .before .before)) in
     c .says .ensures
     ∙ (reply-is kept discarded
     ∙ says-yes (c .before .before .before .before .before .before .before .before .before .before .before .before .before .before .before .before .before .before .args .launch) (c .before .before .before .before .before .before .before .before .before .before .before .before .before .before .before .before .before .before .args .table) (c .before .before .before .before .before .before .before .before .before .before .before .before .before .before .before .before .before .before .args .marks .now) (runsOf (c .before .before .before .before .before .before .before .before .before .before .before .before .before .before .before .before .before .before .args .starts .now) (c .before .before .before .before .before .before .before .before .before .before .before .before .before .before .before .before .before .before .args .ends .now) (c .before .before .before .before .before .before .before .before .before .before .before .before .before .before .before .before .before .before .args .tasks .now)) (accepted (c .before .before .before .before .before .before .before .before .before .before .before .before)) (long (c .before .before .before .before .before .before .before .before .before .before)) (good (c .before .before .before .before .before .before .before .before)) (enough (c .before .before .before .before .before .before)) (sym (verdict-is (c .before .before .before .before)) ∙ c .before .before .before .if5 .taken))

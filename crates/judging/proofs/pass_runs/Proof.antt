@@ -10,15 +10,15 @@ use lib.ListN.{length, getD}
 use Rattle.base.specs.Tests.{and}
 use Rattle.base.proofs.TestLaws.{both-absurd, and-left}
 use Rattle.schedule.specs.declared.Job.{Job}
-use Rattle.schedule.specs.Jobs.{noJob}
-use Rattle.schedule.specs.Runs.{runAt, runsOf}
+use Rattle.schedule.specs.JobArrays.{noJob}
+use Rattle.schedule.specs.Runs.{runAtIndex, runsOf}
 use Rattle.schedule.specs.Passing.{runFits}
 use Rattle.schedule.proofs.PassLaws.{PassedUpTo, passed-start, passed-task, passed-run, passed-step, passed-all, passed-totals}
 use Rattle.judging.proofs.pass_runs.Statement.{statement}
 use Rattle.judging.proofs.pass_runs.Tie as tie
 
 abbrev Inv-loop : tie.InvT-loop
-Inv-loop count starts ends tasks jobs totals₀ from₀ i₀ totals from i = PassedUpTo (λ k. getD jobs k noJob) count (runAt starts ends tasks) (length starts) totals from i
+Inv-loop count starts ends tasks jobs totals₀ from₀ i₀ totals from i = PassedUpTo (λ k. getD jobs k noJob) count (runAtIndex starts ends tasks) (length starts) totals from i
 
 abbrev μ-loop : tie.MeasureT-loop
 μ-loop count starts ends tasks jobs totals₀ from₀ i₀ totals from i = length starts - i
@@ -52,7 +52,7 @@ shared-slice-read-task : tie.Need-shared-slice-read-task Inv-loop μ-loop
 shared-slice-read-task c = omega arith
 
 returns : tie.Need-returns Inv-loop μ-loop
-unfolding runAt runsOf
+unfolding runAtIndex runsOf
 returns c =
     (passed-task _ _ _ _ _ _ _ (c .before .before .before .loop .inv) (omega arith) (c .if1 .taken), λ e k l. both-absurd false e refl)
 
@@ -81,7 +81,7 @@ run-fits-requires : tie.Need-run-fits-requires Inv-loop μ-loop
 run-fits-requires c κs = search needs
 
 returns-2 : tie.Need-returns-2 Inv-loop μ-loop
-unfolding runAt runsOf
+unfolding runAtIndex runsOf
 returns-2 c = (
   passed-run _ _ _ _ _ _ _ (c .before .before .before .before .before .before .before .before .loop .inv) (omega arith) (c .before .before .before .before .before .if1 .left) (sym (c .before .run-fits .ensures) ∙ not-true _ (c .if2 .taken)),
   λ e k l. both-absurd false e refl,
@@ -115,7 +115,7 @@ loop-less : tie.Need-loop-less Inv-loop μ-loop
 loop-less c = omega arith
 
 loop-again : tie.Need-loop-again Inv-loop μ-loop
-unfolding runAt
+unfolding runAtIndex
 loop-again c =
     passed-step _ _ _ _ _ _ _ (c .before .before .before .before .before .before .before .before .loop .inv) (omega arith) (c .before .before .before .before .before .if1 .left) (c .before .before .before .before .before .before .before .before .before .before .before .before .pre .0) (fitting c) (small c)
 

@@ -2,7 +2,7 @@
 use mathlib.Core.Path.{_∙_, sym}
 use borrow.Author.Needs.{needs}
 use lib.ListN.{getD}
-use Rattle.schedule.specs.Jobs.{noJob}
+use Rattle.schedule.specs.JobArrays.{noJob}
 use borrow.Author.Tests.{not-true, not-false}
 use Rattle.schedule.proofs.VerdictLaws.{pass-fails, pass-totals}
 use Rattle.judging.proofs.verdict_of.Statement.{statement}

@@ -14,7 +14,8 @@ use Rattle.table.specs.Reading.{tableIn, readAnswer}
 use Rattle.table.specs.Moving.{firstOutside, movedTable}
 use Rattle.table.proofs.AnswerLaws.{told-refused, refused-number}
 use Rattle.table.proofs.FileLaws.{legal-count}
-use Rattle.table.proofs.RoundTrip.{read-legal, read-answer, read-is, read-length, tableIn-count, moved-header}
+use Rattle.table.proofs.RoundTrip.{read-legal, read-answer, read-is, read-length, tableIn-count}
+use Rattle.table.proofs.MovedTables.{moved-header}
 use Rattle.moving.proofs.ShiftLaws.{as-passed}
 use Rattle.moving.proofs.MoveLaws.{refused-keeps, read-refused, frame-refused, room-refused, nothing-refused, inside-all, accepted-leaves}
 use Rattle.moving.proofs.shift.Statement.{statement}

@@ -5,7 +5,7 @@ use mathlib.Core.Logic.{⊎-elim}
 use native.Mathlib.Omega.{arith}
 use borrow.Author.Needs.{needs}
 use Rattle.base.specs.Limits.{maxTasks, maxPlanRuns}
-use Rattle.schedule.specs.Runs.{runAt}
+use Rattle.schedule.specs.Runs.{runAtIndex}
 use Rattle.placement.specs.HeldRuns.{Room}
 use Rattle.placement.proofs.FillLaws.{Passed, span-room, passed-start, passed-room, passed-some, passed-none, passed-done, passed-all}
 use Rattle.placing.proofs.fill_gaps.Statement.{statement}
@@ -13,7 +13,7 @@ use Rattle.placing.proofs.fill_gaps.Tie as tie
 
 abbrev Inv-loop : tie.InvT-loop
 Inv-loop starts₀ ends₀ tasks₀ span job work end₀ k₀ top₀ left₀ starts ends tasks end k top left =
-    Room starts ends tasks × Passed (runAt starts₀ ends₀ tasks₀) span job work (runAt starts ends tasks) k end top left
+    Room starts ends tasks × Passed (runAtIndex starts₀ ends₀ tasks₀) span job work (runAtIndex starts ends tasks) k end top left
 
 abbrev μ-loop : tie.MeasureT-loop
 μ-loop starts₀ ends₀ tasks₀ span job work end₀ k₀ top₀ left₀ starts ends tasks end k top left = k
@@ -22,7 +22,7 @@ abbrev μ-loop : tie.MeasureT-loop
 span-within : (c : tie.Start Inv-loop μ-loop) → c .args .span .end ≤ maxTasks + maxPlanRuns
 span-within c =
     let a = c .args in
-    omega (arith, span-room (runAt (a .starts .now) (a .ends .now) (a .tasks .now)) (a .span) (a .job) (a .work))
+    omega (arith, span-room (runAtIndex (a .starts .now) (a .ends .now) (a .tasks .now)) (a .span) (a .job) (a .work))
 
 loop-holds : tie.Need-loop-holds Inv-loop μ-loop
 loop-holds c = (c .before .before .before .pre .1 .0, passed-start _ _ _ _ (c .before .before .before .pre .1 .1 .0))
@@ -57,8 +57,8 @@ gap-ticks-requires c κs = search needs
 -- after the call: the gap above the next run gets n ticks
 at-gap : (c : tie.After-gap-ticks Inv-loop μ-loop)
     → let l = c .before .before .before .before .before .loop in
-    c .gap-ticks .result ≡ min (l .left) (l .top - runAt (l .starts) (l .ends) (l .tasks) (l .k - 1) .end)
-unfolding runAt
+    c .gap-ticks .result ≡ min (l .left) (l .top - runAtIndex (l .starts) (l .ends) (l .tasks) (l .k - 1) .end)
+unfolding runAtIndex
 at-gap c = c .gap-ticks .ensures
 
 -- where it gets some, there is room for one run more
@@ -81,9 +81,9 @@ add-end c = omega (arith, gap-room (c .before .before .before .before .before .b
 at-run : (c : tie.Joined3 Inv-loop μ-loop)
     → let a = c .before .before .before .before .before .before .before .before .before .before .args in
     let l = c .before .before .before .before .before .before .loop in
-    let now = runAt (c .if3 .starts) (c .if3 .ends) (c .if3 .tasks) in
+    let now = runAtIndex (c .if3 .starts) (c .if3 .ends) (c .if3 .tasks) in
     Room (c .if3 .starts) (c .if3 .ends) (c .if3 .tasks)
-    × Passed (runAt (a .starts .now) (a .ends .now) (a .tasks .now)) (a .span) (a .job) (a .work) now (l .k - 1) (c .if3 .end) (now (l .k - 1) .start) (l .left - c .before .gap-ticks .result)
+    × Passed (runAtIndex (a .starts .now) (a .ends .now) (a .tasks .now)) (a .span) (a .job) (a .work) now (l .k - 1) (c .if3 .end) (now (l .k - 1) .start) (l .left - c .before .gap-ticks .result)
 at-run c =
     let start = c .before .before .before .before .before .before .before .before .before .before in
     let l = c .before .before .before .before .before .before .loop in
@@ -116,7 +116,7 @@ loop-less : tie.Need-loop-less Inv-loop μ-loop
 loop-less c = omega arith
 
 loop-again : tie.Need-loop-again Inv-loop μ-loop
-unfolding runAt
+unfolding runAtIndex
 loop-again c = at-run (c .before)
 
 same-length-4 : tie.Need-same-length-4 Inv-loop μ-loop

@@ -5,7 +5,7 @@ use mathlib.Core.Logic.{⊎-elim}
 use native.Mathlib.Omega.{arith}
 use lib.ListN.{set}
 use borrow.Author.Needs.{needs}
-use Rattle.schedule.specs.Runs.{runAt}
+use Rattle.schedule.specs.Runs.{runAtIndex}
 use Rattle.placement.specs.HeldRuns.{runsDown, bottomOf}
 use Rattle.placement.proofs.HeldLaws.{runs-none, runs-bottom}
 use Rattle.placement.proofs.RunColumns.{columns-here, columns-other}
@@ -27,12 +27,12 @@ at-top : (c : tie.Joined1)
     → let a = c .before .before .before .before .before .before .before .before .before .before .before .before .before .before .args in
     let filled = c .before .before .before .before .before .before .before .fill-gaps in
     c .if1 .top
-    ≡ bottomOf (a .job .deadline) (runsDown (runAt (filled .last .0) (filled .last .1 .0) (filled .last .1 .1 .0)) (a .span .first) (filled .result .end))
-unfolding runAt bottomOf
+    ≡ bottomOf (a .job .deadline) (runsDown (runAtIndex (filled .last .0) (filled .last .1 .0) (filled .last .1 .1 .0)) (a .span .first) (filled .result .end))
+unfolding runAtIndex bottomOf
 at-top c =
     let a = c .before .before .before .before .before .before .before .before .before .before .before .before .before .before .args in
     let filled = c .before .before .before .before .before .before .before .fill-gaps in
-    let at = runAt (filled .last .0) (filled .last .1 .0) (filled .last .1 .1 .0) in
+    let at = runAtIndex (filled .last .0) (filled .last .1 .0) (filled .last .1 .1 .0) in
     ⊎-elim
     (λ w. w .2 ∙ sym (runs-bottom at (a .span .first) (filled .result .end) (a .job .deadline) (w .0 .taken)))
     (λ w. rw (runs-none at (a .span .first) (filled .result .end) (w .0 .left)) (w .1))
@@ -109,7 +109,7 @@ returns-2 c =
     let kept = filled .kept in
     let some : 0 < n = omega arith in
     let here = columns-here starts ends tasks front (a .job .position) top n (omega arith) (omega arith) (omega arith) in
-    let other : (j : ℕ) → a .span .first ≤ j → runAt (set starts front (top - n)) (set ends front top) (set tasks front (a .job .position)) j ≡ runAt starts ends tasks j =
+    let other : (j : ℕ) → a .span .first ≤ j → runAtIndex (set starts front (top - n)) (set ends front top) (set tasks front (a .job .position)) j ≡ runAtIndex starts ends tasks j =
     λ j l. columns-other starts ends tasks front (a .job .position) top n j (omega arith) in
     let bottom = at-top (c .before .before .before) in
     let gap = c .before .before .gap-ticks .ensures in (

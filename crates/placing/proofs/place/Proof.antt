@@ -7,8 +7,8 @@ use lib.ListN.{length, getD}
 use borrow.Author.Needs.{needs}
 use Rattle.base.specs.Limits.{maxTasks}
 use Rattle.base.proofs.PlaceLaws.{from-length}
-use Rattle.schedule.specs.Jobs.{noJob}
-use Rattle.schedule.specs.Runs.{runAt}
+use Rattle.schedule.specs.JobArrays.{noJob}
+use Rattle.schedule.specs.Runs.{runAtIndex}
 use Rattle.placement.specs.HeldRuns.{runsDown, Held, Room, jobFilled}
 use Rattle.placement.proofs.HeldLaws.{runs-none, column-written}
 use Rattle.placement.proofs.FilledPlaces.{runsFrom, workAt, from-none, from-few, held-few, from-next, held-placed}
@@ -21,8 +21,8 @@ Inv-loop count starts ends tasks jobs keeps held-starts₀ held-ends₀ held-tas
     × (i ≤ span .first)
     × (span .first ≤ maxTasks)
     × Room held-starts held-ends held-tasks
-    × Held span (runAt held-starts held-ends held-tasks)
-    × (runsDown (runAt held-starts held-ends held-tasks) (span .first) (span .end) ≡ runsFrom jobs (workAt jobs keeps count) count i)
+    × Held span (runAtIndex held-starts held-ends held-tasks)
+    × (runsDown (runAtIndex held-starts held-ends held-tasks) (span .first) (span .end) ≡ runsFrom jobs (workAt jobs keeps count) count i)
 
 abbrev μ-loop : tie.MeasureT-loop
 μ-loop count starts ends tasks jobs keeps held-starts₀ held-ends₀ held-tasks₀ span₀ i₀ held-starts held-ends held-tasks span i = i
@@ -31,7 +31,7 @@ abbrev μ-loop : tie.MeasureT-loop
 filled-next : (c : tie.After-work-with Inv-loop μ-loop)
     → let a = c .before .before .before .before .before .before .before .args in
     let l = c .before .before .before .loop in
-    jobFilled (l .span) (getD (a .t1) (l .i - 1) noJob) (c .work-with .result) (runAt (l .held-starts) (l .held-ends) (l .held-tasks))
+    jobFilled (l .span) (getD (a .t1) (l .i - 1) noJob) (c .work-with .result) (runAtIndex (l .held-starts) (l .held-ends) (l .held-tasks))
     ≡ runsFrom (a .t1) (workAt (a .t1) (a .t3) (a .count)) (a .count) (l .i - 1)
 filled-next c =
     let l = c .before .before .before .loop in
@@ -95,7 +95,7 @@ loop-again c =
 all-held : (c : tie.After-loop Inv-loop μ-loop)
     → let a = c .before .before .before .before .before .args in
     let l = c .before .loop in
-    runsDown (runAt (l .held-starts) (l .held-ends) (l .held-tasks)) (l .span .first) (l .span .end) ≡ runsFrom (a .t1) (workAt (a .t1) (a .t3) (a .count)) (a .count) 0
+    runsDown (runAtIndex (l .held-starts) (l .held-ends) (l .held-tasks)) (l .span .first) (l .span .end) ≡ runsFrom (a .t1) (workAt (a .t1) (a .t3) (a .count)) (a .count) 0
 all-held c =
     let done : c .before .loop .i ≡ 0 = omega arith in
     rw done at (c .before .loop .inv .5)
@@ -105,7 +105,7 @@ all-few : (c : tie.After-loop Inv-loop μ-loop) → c .before .loop .span .end -
 all-few c =
     let a = c .before .before .before .before .before .args in
     let l = c .before .loop in
-    held-few (a .t1) (workAt (a .t1) (a .t3) (a .count)) (a .count) (runAt (l .held-starts) (l .held-ends) (l .held-tasks)) (l .span .first) (l .span .end) (all-held c)
+    held-few (a .t1) (workAt (a .t1) (a .t3) (a .count)) (a .count) (runAtIndex (l .held-starts) (l .held-ends) (l .held-tasks)) (l .span .first) (l .span .end) (all-held c)
 
 sub-runs : tie.Need-sub-runs Inv-loop μ-loop
 sub-runs c = omega arith
@@ -138,12 +138,12 @@ same-length-3 : tie.Need-same-length-3 Inv-loop μ-loop
 same-length-3 c = search needs
 
 returns : tie.Need-returns Inv-loop μ-loop
-unfolding runAt
+unfolding runAtIndex
 returns c =
     let after = c .before .before .before .before .before .before .before .before .before .before .before .before .before .before .before .before in
     let start = after .before .before .before .before .before in
     let l = after .before .loop in
-    let at = runAt (l .held-starts) (l .held-ends) (l .held-tasks) in
+    let at = runAtIndex (l .held-starts) (l .held-ends) (l .held-tasks) in
     let pre = start .pre .1 .1 in
     let all = held-placed (start .args .t1) (start .args .t3) (start .args .count) at (l .span .first) (l .span .end) (pre .0) (pre .1 .0) (all-held after) in (
       sym (from-length at (l .span .first) (l .span .end - l .span .first)) ∙ ap length all,

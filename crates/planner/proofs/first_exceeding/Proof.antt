@@ -5,8 +5,8 @@ use mathlib.Core.List.{reverse}
 use native.Mathlib.Omega.{arith}
 use lib.ListN.{getD}
 use Rattle.base.specs.Limits.{maxTasks, maxTicks}
-use Rattle.base.specs.Places.{firstPlaces}
-use Rattle.schedule.specs.Jobs.{noJob, Bounded}
+use Rattle.base.specs.Arrays.{firstPlaces}
+use Rattle.schedule.specs.JobArrays.{noJob, Bounded}
 use Rattle.plans.specs.Planning.{exceedingAfter}
 use Rattle.plans.proofs.ExceedLaws.{exceeding-found, exceeding-passed, exceeding-none}
 use Rattle.planner.proofs.first_exceeding.Statement.{statement}

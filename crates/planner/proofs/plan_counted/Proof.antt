@@ -13,15 +13,15 @@ use Rattle.table.specs.declared.Answer.{Answer}
 use Rattle.table.specs.declared.Answer.the-variants.{Accepted}
 use Rattle.table.specs.Tables.{noTable}
 use Rattle.table.specs.Answers.{numberOf, placeOf, isAccepted}
-use Rattle.table.specs.Kinds.{isNested, isSimilar, windowAnswer}
-use Rattle.table.specs.Reading.{tableIn, readAnswer, reading}
+use Rattle.table.specs.Kinds.{isNested, isSimilar, tableWindowsAnswer}
+use Rattle.table.specs.Reading.{tableIn, readAnswer, readReply}
 use Rattle.table.specs.Writing.{Legal}
 use Rattle.table.proofs.AnswerLaws.{told-refused, refused-number}
 use Rattle.table.proofs.RoundTrip.{read-legal}
-use Rattle.reading.specs.Forward.{forwardRead}
+use Rattle.reading.specs.AnyKind.{anyKindAnswer}
 use Rattle.reading.proofs.ReadLaws.{table-refused, table-accepted}
-use Rattle.reading.proofs.ForwardLaws.{forward-refused, forward-table, forward-served, forward-neither}
-use Rattle.orders.specs.Keys.{Forward}
+use Rattle.orders.specs.Keys.{HasKeys}
+use Rattle.reading.proofs.AnyKindLaws.{any-kind-refused, any-kind-table, any-kind-served, any-kind-neither}
 use Rattle.plans.specs.declared.Planned.{Planned}
 use Rattle.plans.specs.Planning.{LentLists, planDeclined, planTable, planReply, listsAfter}
 use Rattle.plans.proofs.ReplyLaws.{table-kept, file-refused, file-accepted}
@@ -30,31 +30,31 @@ use Rattle.planner.proofs.plan_counted.Statement.{statement}
 use Rattle.planner.proofs.plan_counted.Tie as tie
 
 -- past the `let .. else` nothing but 7 is left to refuse, and the table read is that of the file
-forward : (c : tie.After-enum-told) → forwardRead (c .before .before .before .before .before .before .before .before .before .args .file .now) ≡ Accepted
-forward c = sym (c .before .before .before .read-forward .ensures .0) ∙ c .enum-told .given .1
+any-kind : (c : tie.After-enum-told) → anyKindAnswer (c .before .before .before .before .before .before .before .before .before .args .file .now) ≡ Accepted
+any-kind c = sym (c .before .before .before .read-any-kind .ensures .0) ∙ c .enum-told .given .1
 
 table-is : (c : tie.After-enum-told)
-    → c .before .before .before .read-forward .result .table ≡ tableIn (c .before .before .before .before .before .before .before .before .before .args .file .now)
-table-is c = c .before .before .before .read-forward .ensures .1 (c .enum-told .given .1)
+    → c .before .before .before .read-any-kind .result .table ≡ tableIn (c .before .before .before .before .before .before .before .before .before .args .file .now)
+table-is c = c .before .before .before .read-any-kind .ensures .1 (c .enum-told .given .1)
 
 -- its tasks have keys
-has-keys : (c : tie.After-enum-told) → Forward (c .before .before .before .read-forward .result .table)
+has-keys : (c : tie.After-enum-told) → HasKeys (c .before .before .before .read-any-kind .result .table)
 has-keys c =
-    let known = forward-table _ (forward c) in
-    subst⁻¹ Forward (table-is c) (record { few = known .few; ahead = known .ahead; within-is = known .named })
+    let known = any-kind-table _ (any-kind c) in
+    subst⁻¹ HasKeys (table-is c) (record { few = known .few; windows = known .good; within-is = known .named })
 
 -- it is of either kind where the call says so
 kind-is : (c : tie.After-keys-of-kind)
-    → c .keys-of-kind .result .served
+    → c .keys-of-kind .result .accepted
     ≡ or (isNested (tableIn (c .before .before .before .before .before .before .before .before .before .before .args .file .now)))
     (isSimilar (tableIn (c .before .before .before .before .before .before .before .before .before .before .args .file .now)))
-kind-is c = c .keys-of-kind .ensures .served-is ∙ ap (λ (t : Table). or (isNested t) (isSimilar t)) (table-is (c .before))
+kind-is c = c .keys-of-kind .ensures .accepted-is ∙ ap (λ (t : Table). or (isNested t) (isSimilar t)) (table-is (c .before))
 
 -- past the refusal of 7 the file is accepted
 accepted : (c : tie.Else1) → readAnswer (c .before .before .before .before .before .before .before .before .before .before .before .before .args .file .now) ≡ Accepted
 accepted c =
     let kind = c .before .before in
-    forward-served _ (forward (kind .before)) (sym (kind-is kind) ∙ not-false _ (c .if1 .left))
+    any-kind-served _ (any-kind (kind .before)) (sym (kind-is kind) ∙ not-false _ (c .if1 .left))
 
 -- the lists that are lent
 abbrev lent : (c : tie.Start) → LentLists
@@ -63,7 +63,7 @@ lent c = record { marks = c .args .marks .now; starts = c .args .starts .now; en
 -- what a refusal of reading gives
 refusal : (launch : ℕ) (file : List ℕ) (lists : LentLists) (answer : Answer) (r : Counted) → answer ≡ readAnswer file → isAccepted (readAnswer file) ≡ false
     → (r .count ≡ 0) × (r .reply ≡ planDeclined (numberOf answer) (placeOf answer))
-    → (r .count ≡ reading file .table .count) × ((r .reply ≡ planReply launch file lists) × (lists ≡ listsAfter launch (tableIn file) (r .reply) lists))
+    → (r .count ≡ readReply file .table .count) × ((r .reply ≡ planReply launch file lists) × (lists ≡ listsAfter launch (tableIn file) (r .reply) lists))
 unfolding noTable
 refusal launch file lists answer r same bad is =
     let says = is .1 ∙ ap (λ (a : Answer). planDeclined (numberOf a) (placeOf a)) same in (
@@ -74,8 +74,8 @@ refusal launch file lists answer r same bad is =
       ),
     )
 
-read-forward-requires : tie.Need-read-forward-requires
-read-forward-requires c κs = search needs
+read-any-kind-requires : tie.Need-read-any-kind-requires
+read-any-kind-requires c κs = search needs
 
 enum-told : tie.Need-enum-told
 enum-told c = search needs
@@ -87,10 +87,10 @@ returns : tie.Need-returns
 returns c =
     let read = c .before .before .before in
     let start = read .before .before .before .before .before .before in
-    let answer = read .read-forward .result .answer in
-    let is = read .read-forward .ensures .0 in
+    let answer = read .read-any-kind .result .answer in
+    let is = read .read-any-kind .ensures .0 in
     let bad = told-refused answer (c .before .match .keys2) in
-    let same = is ∙ forward-refused (start .args .file .now) (ap isAccepted (sym is) ∙ bad) in
+    let same = is ∙ any-kind-refused (start .args .file .now) (ap isAccepted (sym is) ∙ bad) in
     refusal (start .args .launch) (start .args .file .now) (lent start) answer (c .refused .result) same (ap isAccepted (sym same) ∙ bad) (c .refused .ensures)
 
 keys-of-kind-requires : tie.Need-keys-of-kind-requires
@@ -108,8 +108,8 @@ returns-2 c =
     let kind = window .before .before .before in
     let told = kind .before in
     let start = told .before .before .before .before .before .before .before .before .before in
-    let neither = forward-neither (start .args .file .now) (forward told) (sym (kind-is kind) ∙ not-true _ (window .before .if1 .taken)) in
-    let same = window .window-answer .ensures ∙ (ap windowAnswer (table-is told) ∙ neither .0) in
+    let neither = any-kind-neither (start .args .file .now) (any-kind told) (sym (kind-is kind) ∙ not-true _ (window .before .if1 .taken)) in
+    let same = window .window-answer .ensures ∙ (ap tableWindowsAnswer (table-is told) ∙ neither .0) in
     refusal (start .args .launch) (start .args .file .now) (lent start) (window .window-answer .result) (c .refused2 .result) same (neither .1) (c .refused2 .ensures)
 
 plan-table-requires : tie.Need-plan-table-requires
@@ -151,7 +151,7 @@ pub plan-counted-spec : {M : Type 1} → statement M
 plan-counted-spec =
     tie.close
     (tie.spec
-    read-forward-requires
+    read-any-kind-requires
     enum-told
     refused-requires
     returns

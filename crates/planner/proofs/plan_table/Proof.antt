@@ -1,8 +1,7 @@
--- `planner::plan_table` meets its contract: a launch tick that is not accepted ends the call and touches no list; by the table's kind it is then one
--- planning or the other.
+-- `planner::plan_table` meets its contract: a launch tick that is not accepted ends the call and touches no list.
 use Prim.Native.Nat.{_≤_}
 use mathlib.Core.Path.{_≡_, sym, ap, _∙_}
-use mathlib.Core.Bool.{true, false}
+use mathlib.Core.Bool.{false}
 use borrow.Author.Needs.{needs}
 use borrow.Author.Tests.{ltb-false}
 use lib.Dec.{eqb}
@@ -58,15 +57,11 @@ held c =
     let start = c .before .before .before .before .before .before .before .before in
     held-table (start .args .launch) (start .args .table) (low (c .before)) (start .pre .0) (c .jobs-last-first .result) (c .jobs-last-first .ensures)
 
--- the kind in each branch
-nested-is : (c : tie.Then2) → isNested (c .before .before .before .before .before .before .before .before .before .args .table) ≡ true
-nested-is c = sym (c .before .before .before .before .before .before .before .before .before .pre .1 .0) ∙ c .if2 .taken
-
-similar-is : (c : tie.Else2) → isNested (c .before .before .before .before .before .before .before .before .before .args .table) ≡ false
-similar-is c = sym (c .before .before .before .before .before .before .before .before .before .pre .1 .0) ∙ c .if2 .left
-
-plan-nested-requires : tie.Need-plan-nested-requires
-plan-nested-requires c κs = let branch = c .before .before .before .before in rw (nested-is branch) at (held (branch .before))
+plan-jobs-requires : tie.Need-plan-jobs-requires
+plan-jobs-requires c κs =
+    let jobs = c .before .before .before .before in
+    let start = jobs .before .before .before .before .before .before .before .before in
+    rw (start .pre .1 .0) (held jobs)
 
 same-length : tie.Need-same-length
 same-length c = search needs
@@ -83,40 +78,13 @@ same-length-4 c = search needs
 returns-2 : tie.Need-returns-2
 returns-2 c =
     let made = c .before .before .before .before .before .before .before .before in
-    let branch = made .before .before .before .before .before in
-    let jobs = branch .before in
-    let start = jobs .before .before .before .before .before .before .before .before in (
-      made .plan-nested .ensures .0
-          ∙ reply-of-jobs (start .args .launch) (start .args .table) true (nested-is branch) _ (jobs .jobs-last-first .ensures) (accepted (jobs .before .before)) (lent start),
-      made .plan-nested .ensures .1
-          ∙ lists-of-jobs (start .args .launch) (start .args .table) true (nested-is branch) _ (jobs .jobs-last-first .ensures) (made .plan-nested .result) (lent start),
-    )
-
-plan-similar-requires : tie.Need-plan-similar-requires
-plan-similar-requires c κs = let branch = c .before .before .before .before in rw (similar-is branch) at (held (branch .before))
-
-same-length-5 : tie.Need-same-length-5
-same-length-5 c = search needs
-
-same-length-6 : tie.Need-same-length-6
-same-length-6 c = search needs
-
-same-length-7 : tie.Need-same-length-7
-same-length-7 c = search needs
-
-same-length-8 : tie.Need-same-length-8
-same-length-8 c = search needs
-
-returns-3 : tie.Need-returns-3
-returns-3 c =
-    let made = c .before .before .before .before .before .before .before .before in
-    let branch = made .before .before .before .before .before in
-    let jobs = branch .before in
-    let start = jobs .before .before .before .before .before .before .before .before in (
-      made .plan-similar .ensures .0
-          ∙ reply-of-jobs (start .args .launch) (start .args .table) false (similar-is branch) _ (jobs .jobs-last-first .ensures) (accepted (jobs .before .before)) (lent start),
-      made .plan-similar .ensures .1
-          ∙ lists-of-jobs (start .args .launch) (start .args .table) false (similar-is branch) _ (jobs .jobs-last-first .ensures) (made .plan-similar .result) (lent start),
+    let jobs = made .before .before .before .before .before in
+    let start = jobs .before .before .before .before .before .before .before .before in
+    let kind = sym (start .pre .1 .0) in (
+      made .plan-jobs .ensures .0
+          ∙ reply-of-jobs (start .args .launch) (start .args .table) (start .args .nested) kind _ (jobs .jobs-last-first .ensures) (accepted (jobs .before .before)) (lent start),
+      made .plan-jobs .ensures .1
+          ∙ lists-of-jobs (start .args .launch) (start .args .table) (start .args .nested) kind _ (jobs .jobs-last-first .ensures) (made .plan-jobs .result) (lent start),
     )
 
 pub plan-table-spec : {M : Type 1} → statement M
@@ -128,15 +96,9 @@ plan-table-spec =
     returns
     cast-count
     jobs-last-first-requires
-    plan-nested-requires
+    plan-jobs-requires
     same-length
     same-length-2
     same-length-3
     same-length-4
-    returns-2
-    plan-similar-requires
-    same-length-5
-    same-length-6
-    same-length-7
-    same-length-8
-    returns-3)
+    returns-2)

@@ -5,15 +5,15 @@ use mathlib.Core.Logic.{⊎-elim}
 use mathlib.Core.Bool.{false}
 use native.Mathlib.Omega.{arith}
 use lib.ListN.{getD}
-use Rattle.schedule.specs.Jobs.{noJob}
-use Rattle.schedule.specs.Ticks.{one}
+use Rattle.schedule.specs.JobArrays.{noJob}
+use Rattle.schedule.specs.Ticks.{oneIf}
 use Rattle.placement.proofs.PositionLaws.{Put, put-start, put-next}
 use Rattle.plans.proofs.MarkLaws.{marked-end}
 use Rattle.planner.proofs.put_marks.Statement.{statement}
 use Rattle.planner.proofs.put_marks.Tie as tie
 
 abbrev Inv-loop : tie.InvT-loop
-Inv-loop count marks₀ jobs keeps i₀ marks i = (i ≤ count) × Put (λ k. getD jobs k noJob) (λ k. one (getD keeps k false)) count marks₀ i marks
+Inv-loop count marks₀ jobs keeps i₀ marks i = (i ≤ count) × Put (λ k. getD jobs k noJob) (λ k. oneIf (getD keeps k false)) count marks₀ i marks
 
 abbrev μ-loop : tie.MeasureT-loop
 μ-loop count marks₀ jobs keeps i₀ marks i = count - i
@@ -23,8 +23,8 @@ below : (c : tie.After-job Inv-loop μ-loop) → getD (c .before .before .before
 below c = c .before .before .before .pre .1 .1 .0 (c .before .before .loop .i) (omega arith)
 
 -- the mark put is that of the keep list
-mark-is : (c : tie.Joined1 Inv-loop μ-loop) → c .if1 .marks ≡ one (getD (c .before .before .before .before .args .t2) (c .before .before .before .loop .i) false)
-mark-is c = ⊎-elim (λ w. w .1 ∙ sym (ap one (w .0 .taken))) (λ w. w .1 ∙ sym (ap one (w .0 .left))) (c .if1 .came)
+mark-is : (c : tie.Joined1 Inv-loop μ-loop) → c .if1 .marks ≡ oneIf (getD (c .before .before .before .before .args .t2) (c .before .before .before .loop .i) false)
+mark-is c = ⊎-elim (λ w. w .1 ∙ sym (ap oneIf (w .0 .taken))) (λ w. w .1 ∙ sym (ap oneIf (w .0 .left))) (c .if1 .came)
 
 loop-holds : tie.Need-loop-holds Inv-loop μ-loop
 loop-holds c = (omega arith, put-start _ _ _ _ (c .pre .1 .1 .1 .1))

@@ -11,8 +11,8 @@ slice-aggregate-read-full c = search needs
 read-full-requires : tie.Need-read-full-requires
 read-full-requires c κs = search needs
 
-print-now-held-requires : tie.Need-print-now-held-requires
-print-now-held-requires c κs = search needs
+print-now-from-first-requires : tie.Need-print-now-from-first-requires
+print-now-from-first-requires c κs = search needs
 
 array-share-prefix-text : tie.Need-array-share-prefix-text
 array-share-prefix-text c = search needs
@@ -32,7 +32,7 @@ now-spec =
     (tie.spec
     slice-aggregate-read-full
     read-full-requires
-    print-now-held-requires
+    print-now-from-first-requires
     array-share-prefix-text
     slice-aggregate-write-all
     write-all-requires

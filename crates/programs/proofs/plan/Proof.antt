@@ -11,8 +11,8 @@ slice-aggregate-read-full c = search needs
 read-full-requires : tie.Need-read-full-requires
 read-full-requires c κs = search needs
 
-print-held-requires : tie.Need-print-held-requires
-print-held-requires c κs = search needs
+print-from-first-requires : tie.Need-print-from-first-requires
+print-from-first-requires c κs = search needs
 
 array-share-prefix-text : tie.Need-array-share-prefix-text
 array-share-prefix-text c = search needs
@@ -32,7 +32,7 @@ plan-spec =
     (tie.spec
     slice-aggregate-read-full
     read-full-requires
-    print-held-requires
+    print-from-first-requires
     array-share-prefix-text
     slice-aggregate-write-all
     write-all-requires

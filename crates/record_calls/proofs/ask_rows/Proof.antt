@@ -39,9 +39,9 @@ use denote.Triple.Table.{entered, cited}
 use denote.Triple.Walked.{says, needs, Stays, stay-none, walkOf, goes-none, Walks, ends-at, walked, walk-meets}
 use denote.Exit.{yes}
 use Rattle.records.proofs.Walking.{spot, value}
-use Rattle.records.specs.RecordColumns.{heldRuns, columnsOf}
-use Rattle.schedule.specs.RunCheck.{runsAnswer}
-use Rattle.schedule.specs.Queries.{runAtTick, runFromTick, HoldsTick, FirstFrom, touching as touchingRuns, TouchingPart}
+use Rattle.records.specs.RecordColumns.{maxCopied, columnsOf}
+use Rattle.schedule.specs.RunCheck.{checkAnswer}
+use Rattle.schedule.specs.Queries.{runAtTick, runFromTick, HoldsTick, FirstFrom, touching as touchingRuns, TouchingStretch}
 use Rattle.schedule.specs.BusyCount.{busyReply, CountsTicks}
 use Rattle.schedule.specs.declared.Run.{Run}
 use Rattle.schedule.proofs.Run as mRun
@@ -61,11 +61,11 @@ use Rattle.record_calls.specs.Answers.{gatheredOf, answersOf}
 use Rattle.record_calls.specs.declared.Answers.{Answers}
 use Rattle.record_calls.proofs.Answers as mAnswers
 use Rattle.record_calls.proofs.Answers.Laws as mAnswers′
-use Rattle.record_calls.proofs.Lending.{Rows, rowsVals, rows-tells, rows-lawful, By, Parts}
-use Rattle.record_calls.proofs.Lending.{big-lit, lends, comes-back, asks, asks-list, asked, asks-part}
-use Rattle.records.proofs.part.Symbol as part-def
-use Rattle.records.proofs.part.Symbol.{name as #part}
-use Rattle.records.proofs.part.Met as part-thm
+use Rattle.record_calls.proofs.Lending.{Rows, rowsVals, rows-tells, rows-lawful, By, Stretches}
+use Rattle.record_calls.proofs.Lending.{big-lit, lends, comes-back, asks, asks-list, asked, asks-stretch}
+use Rattle.records.proofs.stretch.Symbol as stretch-def
+use Rattle.records.proofs.stretch.Symbol.{name as #stretch}
+use Rattle.records.proofs.stretch.Met as stretch-thm
 use Rattle.queries.proofs.check as check
 use Rattle.queries.proofs.check.Symbol as check-def
 use Rattle.queries.proofs.check.Symbol.{name as #check}
@@ -105,13 +105,13 @@ stayed =
 
 -- what was answered is what the contract says
 are-answers : (runs run-list stretch : List Run) (tick a b : ℕ) (y₁ : RunsAnswer) (y₂ y₃ : Found) (y₄ : Busy) (y₅ : RunColumns) (y : Answers)
-    → runs ≡ run-list → y₁ ≡ runsAnswer runs → y₂ ≡ runAtTick runs tick → y₃ ≡ runFromTick runs tick → y₄ ≡ busyReply runs a b
+    → runs ≡ run-list → y₁ ≡ checkAnswer runs → y₂ ≡ runAtTick runs tick → y₃ ≡ runFromTick runs tick → y₄ ≡ busyReply runs a b
     → stretch ≡ touchingRuns runs a b → y₅ ≡ columnsOf stretch → y ≡ gatheredOf y₁ y₂ y₃ y₄ y₅ → y ≡ answersOf run-list tick a b
 are-answers runs run-list stretch tick a b y₁ y₂ y₃ y₄ y₅ y e e₁ e₂ e₃ e₄ e-stretch e₅ e-all = rw (e-all, e₁, e₂, e₃, e₄, e₅, e-stretch, e)
 
 -- that the functions called meet their contracts
 record Known {M : Type 1} (𝓤 : URA M) (H : Heap 𝓤) (A : Atoms 𝓤) (at-mem : Memory → SProp 𝓤) (run : Routine → Fun 𝓤) (𝓣 : Tables 𝓤 H) : Type 1 where
-  parts : Triple 𝓤 (𝓣 .C #part) (Parts 𝓤 H A at-mem run)
+  stretches : Triple 𝓤 (𝓣 .C #stretch) (Stretches 𝓤 H A at-mem run)
   checks : Triple 𝓤 (𝓣 .C #check) (By 𝓤 H A check.ended (check.clauses 𝓤 H A at-mem run))
   runs-at : Triple 𝓤 (𝓣 .C #run-at) (By 𝓤 H A run-at.ended (run-at.clauses 𝓤 H A at-mem run))
   runs-from : Triple 𝓤 (𝓣 .C #run-from) (By 𝓤 H A run-from.ended (run-from.clauses 𝓤 H A at-mem run))
@@ -175,7 +175,7 @@ module _ {M : Type 1} (𝓤 : URA M) (H : Heap 𝓤) (A : Atoms 𝓤) (W : Given
     framed = fmOf 𝓤 H (W .laws) 𝓣
 
     walk : Is Rows rows (rowsVals rows) → Is usize count (vint w64 count ∷ []) → Is u32 tick (vint w32 tick ∷ []) → Is u32 a (vint w32 a ∷ [])
-        → Is u32 b (vint w32 b ∷ []) → count ≤ heldRuns → ent 𝓤 (onEntry 𝓤 H A f.signature tt tt (given .0 .3) vs)
+        → Is u32 b (vint w32 b ∷ []) → count ≤ maxCopied → ent 𝓤 (onEntry 𝓤 H A f.signature tt tt (given .0 .3) vs)
         (WpFn 𝓤 H (𝓣 .C) (𝓣 .Λ) code.function (only (rowsVals rows) ∷ vint w64 count ∷ vint w32 tick ∷ vint w32 a ∷ vint w32 b ∷ []) Post)
     walk gr gc gt ga gb few =
         qed W (‵ ftrue ∷ ‵ (owns (Rows ∷ usize ∷ u32 ∷ u32 ∷ u32 ∷ []) (given .0 .3) vs) ∷ []) ∵
@@ -193,12 +193,12 @@ module _ {M : Type 1} (𝓤 : URA M) (H : Heap 𝓤) (A : Atoms 𝓤) (W : Given
         (init ! 2 refl (tt, (tt, (record { fits = lit< tt }, tt)))) $
         -- [the token; the array's list; the lender's part; _15; …; _7; …; that _6 dies; _5; …; _0; …; true; the parameters']
         move ! (18 ∷ []) $ lends ! tt rows l₆ gr (λ α γ long.
-        asks-part ! framed at-mem run (known .parts) rows count l₆ α γ gc few long
+        asks-stretch ! framed at-mem run (known .stretches) rows count l₆ α γ gc few long
         (and-then ! (value ! 5 refl) (and-then ! (lit ! tt) (and-then ! (value ! 28 refl) (no-more !)))) (λ v r e is.
         land ! (spot !) (init ! 19 refl (shr-slice-lawful 𝓤 H A W (named 0) (α ∷ []) mRun.the-row .typed r (v ∷ []) is .0)) $
         -- [the token; the list of the first runs; the lender's part; _15; …]
         asks-list ! framed check.ended (check.clauses 𝓤 H A at-mem run) (known .checks) (to-list α r v) α r v
-        (asked 𝓤 H A W α r v [] tt tt (id⊢ 𝓤 _)) (id⊢ 𝓤 _) (λ y. y ≡ runsAnswer (r .now)) (λ y e. id⊢ 𝓤 _)
+        (asked 𝓤 H A W α r v [] tt tt (id⊢ 𝓤 _)) (id⊢ 𝓤 _) (λ y. y ≡ checkAnswer (r .now)) (λ y e. id⊢ 𝓤 _)
         (and-then ! (value ! 19 refl) (no-more !)) (λ w₁ y₁ e₁ is₁. drop ! $
         land ! (spot !) (init ! 17 refl (EL.lawful mRunsAnswer.the-type mRunsAnswer′.the-laws 𝓤 H A W tt .typed y₁ _ is₁ .0)) $
         asks-list ! framed run-at.ended (run-at.clauses 𝓤 H A at-mem run) (known .runs-at) (to-tick α r v) α r v
@@ -219,7 +219,7 @@ module _ {M : Type 1} (𝓤 : URA M) (H : Heap 𝓤) (A : Atoms 𝓤) (W : Given
         asks-list ! framed touching.ended (touching.clauses 𝓤 H A at-mem run) (known .touches) (to-interval α r v) α r v
         (asked 𝓤 H A W α r v (u32 ∷ u32 ∷ []) (a, (b, tt)) (vint w32 a ∷ [], (vint w32 b ∷ [], tt)) (two-numbers ga gb)) (id⊢ 𝓤 _)
         (λ y. now y ≡ touchingRuns (r .now) a b)
-        (λ y e. fst∗ 𝓤 (fact 𝓤 (now y ≡ touchingRuns (r .now) a b)) (fact 𝓤 (TouchingPart a b (r .now) (now y))))
+        (λ y e. fst∗ 𝓤 (fact 𝓤 (now y ≡ touchingRuns (r .now) a b)) (fact 𝓤 (TouchingStretch a b (r .now) (now y))))
         (and-then ! (value ! 19 refl) (and-then ! (value ! 24 refl) (and-then ! (value ! 22 refl) (no-more !)))) (λ u s e-stretch is-stretch.
         land ! (spot !) (init ! 4 refl (shr-slice-lawful 𝓤 H A W (named 0) (α ∷ []) mRun.the-row .typed s (u ∷ []) is-stretch .0)) $
         -- [the token; the stretch; the list of the first runs; the lender's part; _15; …]
@@ -280,7 +280,7 @@ ask-rows-spec 𝓤 H 𝓜 𝓖 𝓡 =
     entered 𝓤 H (tripleOf 𝓤 H (𝓖 .A) f.signature (f.spec 𝓤 H (𝓖 .A) (𝓜 .mem) (𝓡 .run)))
     (tables 𝓤 H 𝓜 𝓡 code.env .C) (tables 𝓤 H 𝓜 𝓡 code.env .Λ) #key code.function (code.unfolded 𝓤 H 𝓜 𝓡)
     (f-meets 𝓤 H (𝓖 .A) (givenOf 𝓤 H 𝓜 𝓖) (𝓜 .mem) (𝓡 .run) (tablesOf 𝓤 H 𝓜 (tables 𝓤 H 𝓜 𝓡 code.env)) (record {
-      parts = cited 𝓤 H _ 𝓜 𝓡 code.env #part part-def.routine code.calls-records·part (part-thm.met 𝓤 H 𝓜 𝓖 𝓡);
+      stretches = cited 𝓤 H _ 𝓜 𝓡 code.env #stretch stretch-def.routine code.calls-records·stretch (stretch-thm.met 𝓤 H 𝓜 𝓖 𝓡);
       checks = cited 𝓤 H _ 𝓜 𝓡 code.env #check check-def.routine code.calls-queries·check (check-thm.met 𝓤 H 𝓜 𝓖 𝓡);
       runs-at = cited 𝓤 H _ 𝓜 𝓡 code.env #run-at run-at-def.routine code.calls-queries·run-at (run-at-thm.met 𝓤 H 𝓜 𝓖 𝓡);
       runs-from = cited 𝓤 H _ 𝓜 𝓡 code.env #run-from run-from-def.routine code.calls-queries·run-from (run-from-thm.met 𝓤 H 𝓜 𝓖 𝓡);

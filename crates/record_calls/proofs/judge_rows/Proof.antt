@@ -38,16 +38,16 @@ use denote.Triple.Table.{entered, cited}
 use denote.Triple.Walked.{says, needs, Stays, stay-none, stay-none-slice, walkOf, goes-none, goes-none-slice, Walks, ends-at, walked, walk-meets}
 use denote.Exit.{yes}
 use Rattle.records.proofs.Walking.{spot, value}
-use Rattle.records.specs.RecordColumns.{heldRuns}
-use Rattle.schedule.specs.Judging.{judged, Sound}
+use Rattle.records.specs.RecordColumns.{maxCopied}
+use Rattle.schedule.specs.Judging.{judgeReply, Sound}
 use Rattle.schedule.specs.declared.Run.{Run}
 use Rattle.schedule.proofs.Run as mRun
 use Rattle.schedule.proofs.Judged as mJudged
 use Rattle.schedule.proofs.Judged.Laws as mJudged′
-use Rattle.record_calls.proofs.Lending.{Rows, rowsVals, rows-tells, rows-lawful, Lent, By, Parts, big-lit, lends, comes-back, asks, asks-part}
-use Rattle.records.proofs.part.Symbol as part-def
-use Rattle.records.proofs.part.Symbol.{name as #part}
-use Rattle.records.proofs.part.Met as part-thm
+use Rattle.record_calls.proofs.Lending.{Rows, rowsVals, rows-tells, rows-lawful, Lent, By, Stretches, big-lit, lends, comes-back, asks, asks-stretch}
+use Rattle.records.proofs.stretch.Symbol as stretch-def
+use Rattle.records.proofs.stretch.Symbol.{name as #stretch}
+use Rattle.records.proofs.stretch.Met as stretch-thm
 use Rattle.judging.proofs.judge as judge
 use Rattle.judging.proofs.judge.Symbol as judge-def
 use Rattle.judging.proofs.judge.Symbol.{name as #judge}
@@ -112,13 +112,13 @@ module _ {M : Type 1} (𝓤 : URA M) (H : Heap 𝓤) (A : Atoms 𝓤) (W : Given
       owned ! u32 (Is u32) (uint-makes 𝓤 H A W w32) launch _ glaunch $ fjoin ! $ move ! (2 ∷ 0 ∷ []) $ fjoin ! $ move ! (1 ∷ 0 ∷ []) $ join ! $
       nothing ! $ move ! (1 ∷ 0 ∷ []) $ join ! $ done !
 
-  module _ (𝓣 : Tables 𝓤 H) (parts : Triple 𝓤 (𝓣 .C #part) (Parts 𝓤 H A at-mem run))
+  module _ (𝓣 : Tables 𝓤 H) (stretches : Triple 𝓤 (𝓣 .C #stretch) (Stretches 𝓤 H A at-mem run))
       (judges : Triple 𝓤 (𝓣 .C #judge) (By 𝓤 H A judge.ended (judge.clauses 𝓤 H A at-mem run))) where
     framed : FmC 𝓤 H (W .laws) (𝓣 .C)
     framed = fmOf 𝓤 H (W .laws) 𝓣
 
     walk : Is (ShrSlice (named 0) κ₀ u8) file (v-file ∷ []) → Is u32 launch (vint w32 launch ∷ [])
-        → Is (ShrSlice (named 1) κ₁ u8) marks (v-marks ∷ []) → Is Rows rows (rowsVals rows) → Is usize count (vint w64 count ∷ []) → count ≤ heldRuns
+        → Is (ShrSlice (named 1) κ₁ u8) marks (v-marks ∷ []) → Is Rows rows (rowsVals rows) → Is usize count (vint w64 count ∷ []) → count ≤ maxCopied
         → ent 𝓤 (onEntry 𝓤 H A f.signature (given .0 .0) (given .0 .1) (given .0 .3) vs)
         (WpFn 𝓤 H (𝓣 .C) (𝓣 .Λ) code.function (v-file ∷ vint w32 launch ∷ v-marks ∷ only (rowsVals rows) ∷ vint w64 count ∷ []) Post)
     walk gfile glaunch gmarks gr gc few =
@@ -138,7 +138,7 @@ module _ {M : Type 1} (𝓤 : URA M) (H : Heap 𝓤) (A : Atoms 𝓤) (W : Given
         (init ! 0 refl (tt, (tt, (record { fits = lit< tt }, tt)))) $
         -- [the token; the array's list; the lender's part; _9; …; _7; …; that _6 dies; _5; …; _0; …; the tokens; the parameters']
         move ! (6 ∷ []) $ lends ! tt rows l₆ gr (λ α γ long.
-        asks-part ! framed at-mem run parts rows count l₆ α γ gc few long
+        asks-stretch ! framed at-mem run stretches rows count l₆ α γ gc few long
         (and-then ! (value ! 3 refl) (and-then ! (lit ! tt) (and-then ! (value ! 10 refl) (no-more !)))) (λ v r e is.
         land ! (spot !) (init ! 7 refl (shr-slice-lawful 𝓤 H A W (named 0) (α ∷ []) mRun.the-row .typed r (v ∷ []) is .0)) $
         -- the file and the marks are Copy: one copy of what is owned of each is kept for the exit
@@ -150,8 +150,8 @@ module _ {M : Type 1} (𝓤 : URA M) (H : Heap 𝓤) (A : Atoms 𝓤) (W : Given
         use3 W (raw (By 𝓤 H A judge.ended (judge.clauses 𝓤 H A at-mem run) .pre (to-judge α r v))) (goes-judge α r v glaunch) $
         -- [what the judge asks; true; what the marks own; the array's and count's; launch's; what the file owns; the lender's part; _9; …]
         asks ! framed judge.ended (judge.clauses 𝓤 H A at-mem run) judges (to-judge α r v) (Tokens α) (id⊢ 𝓤 _)
-        (λ y. y ≡ judged launch (file .now) (marks .now) (r .now))
-        (λ y _. fst∗ 𝓤 (fact 𝓤 (y ≡ judged launch (file .now) (marks .now) (r .now))) (fact 𝓤 (Sound launch (file .now) (marks .now) (r .now) y)))
+        (λ y. y ≡ judgeReply launch (file .now) (marks .now) (r .now))
+        (λ y _. fst∗ 𝓤 (fact 𝓤 (y ≡ judgeReply launch (file .now) (marks .now) (r .now))) (fact 𝓤 (Sound launch (file .now) (marks .now) (r .now) y)))
         (and-then ! (value ! 22 refl) (and-then ! (value ! 20 refl) (and-then ! (value ! 18 refl) (and-then ! (value ! 11 refl) (no-more !)))))
         (λ w y e′ is′.
         land ! (spot !) (init ! 25 refl (LL.lawful mJudged.the-type mJudged′.the-laws 𝓤 H A W .typed y _ is′ .0)) $
@@ -163,12 +163,12 @@ module _ {M : Type 1} (𝓤 : URA M) (H : Heap 𝓤) (A : Atoms 𝓤) (W : Given
         free1 ! $ free1 ! $ free1 ! $ free1 ! $ free1 ! $ free1 ! $ free1 ! $ free1 ! $ free1 ! $ free1 ! $ free0 ! $
         suffices ! _ (ends-at 𝓤 H A f.ended stayed (f.clauses 𝓤 H A at-mem run) W given w y
         (tt, (tt, (tt, (tt, (tt, tt))))) (tt, (tt, (tt, (tt, (tt, tt)))))) $
-        says ! (e′ ∙ ap (judged launch (file .now) (marks .now)) e) $
+        says ! (e′ ∙ ap (judgeReply launch (file .now) (marks .now)) e) $
         move ! (0 ∷ 3 ∷ []) $ join ! $ move ! (1 ∷ 0 ∷ []) $ join ! $ frame ! $ move ! (1 ∷ 2 ∷ []) $ fjoin ! $ move ! (2 ∷ 0 ∷ []) $ fjoin ! $
         move ! (2 ∷ 0 ∷ []) $ fjoin ! $ frame ! $ done !)))))))))))))
 
 module _ {M : Type 1} (𝓤 : URA M) (H : Heap 𝓤) (A : Atoms 𝓤) (W : Given 𝓤 H A) (at-mem : Memory → SProp 𝓤) (run : Routine → Fun 𝓤) (𝓣 : Tables 𝓤 H)
-    (parts : Triple 𝓤 (𝓣 .C #part) (Parts 𝓤 H A at-mem run))
+    (stretches : Triple 𝓤 (𝓣 .C #stretch) (Stretches 𝓤 H A at-mem run))
     (judges : Triple 𝓤 (𝓣 .C #judge) (By 𝓤 H A judge.ended (judge.clauses 𝓤 H A at-mem run))) where
   f-walks : Walks 𝓤 H A f.ended stayed (WpFn 𝓤 H (𝓣 .C) (𝓣 .Λ) code.function) (f.clauses 𝓤 H A at-mem run)
   f-walks =
@@ -179,7 +179,7 @@ module _ {M : Type 1} (𝓤 : URA M) (H : Heap 𝓤) (A : Atoms 𝓤) (W : Given
         (uint-tells w32, (shr-slice-tells (named 1) (κs .1 .0) u8, (rows-tells, (uint-tells w64, tt)))),
       ))
       (λ κs qs bounds a _ are. needs 𝓤 _ _
-      (walk 𝓤 H A W at-mem run (κs .0) (κs .1 .0) (qs .0) (qs .1 .0) (a .0) (a .1 .0) (a .1 .1 .0) (a .1 .1 .1 .0) (a .1 .1 .1 .1 .0) 𝓣 parts judges
+      (walk 𝓤 H A W at-mem run (κs .0) (κs .1 .0) (qs .0) (qs .1 .0) (a .0) (a .1 .0) (a .1 .1 .0) (a .1 .1 .1 .0) (a .1 .1 .1 .1 .0) 𝓣 stretches judges
       (are .0) (are .1 .0) (are .1 .1 .0) (are .1 .1 .1 .0) (are .1 .1 .1 .1 .0)))
 
   f-meets : Meets 𝓤 H A f.signature (WpFn 𝓤 H (𝓣 .C) (𝓣 .Λ) code.function) (f.spec 𝓤 H A at-mem run)
@@ -202,5 +202,5 @@ judge-rows-spec 𝓤 H 𝓜 𝓖 𝓡 =
     entered 𝓤 H (tripleOf 𝓤 H (𝓖 .A) f.signature (f.spec 𝓤 H (𝓖 .A) (𝓜 .mem) (𝓡 .run)))
     (tables 𝓤 H 𝓜 𝓡 code.env .C) (tables 𝓤 H 𝓜 𝓡 code.env .Λ) #key code.function (code.unfolded 𝓤 H 𝓜 𝓡)
     (f-meets 𝓤 H (𝓖 .A) (givenOf 𝓤 H 𝓜 𝓖) (𝓜 .mem) (𝓡 .run) (tablesOf 𝓤 H 𝓜 (tables 𝓤 H 𝓜 𝓡 code.env))
-    (cited 𝓤 H _ 𝓜 𝓡 code.env #part part-def.routine code.calls-records·part (part-thm.met 𝓤 H 𝓜 𝓖 𝓡))
+    (cited 𝓤 H _ 𝓜 𝓡 code.env #stretch stretch-def.routine code.calls-records·stretch (stretch-thm.met 𝓤 H 𝓜 𝓖 𝓡))
     (cited 𝓤 H _ 𝓜 𝓡 code.env #judge judge-def.routine code.calls-judging·judge (judge-thm.met 𝓤 H 𝓜 𝓖 𝓡)))

@@ -2,7 +2,6 @@
 -- that each meets its contract. The three arrays are taken apart into their numbers before the loops (`apart`) and put together after them (`together`).
 -- In a turn number i of an array is taken out, stored to and put back (`stores-number`): of the starts and of the ends in the first loop, of the tasks in
 -- the second. The variable of both loops is i, with i ≤ n; what the arrays hold is a function of i, `filled`.
--- Assumes nothing.
 use mathlib.Core.Path.{_≡_, refl, sym, _∙_, ap, subst}
 use Prim.Native.Nat.{ℕ, _+_, _-_, _*_, _<_, _≤_, _^_, zero-le}
 use native.Mathlib.Nat.{le-refl, eq-or-lt-of-le}
@@ -63,15 +62,15 @@ use Rattle.schedule.specs.Runs.{noRun}
 use Rattle.schedule.proofs.Run as T
 use Rattle.schedule.proofs.Run.Laws as T′
 use Rattle.records.specs.declared.RunColumns.{RunColumns}
-use Rattle.records.specs.RecordColumns.{noNumbers, filled, madeOf, startOf, endOf, taskNumber, heldCount}
+use Rattle.records.specs.RecordColumns.{noNumbers, filled, madeOf, startOf, endOf, taskNumber, copiedCount}
 use Rattle.records.proofs.RecordLaws.{filled-none, filled-next, filled-length, columns-made}
 use Rattle.records.proofs.Walking.{unset, holds, spot, value, returned}
 use Rattle.records.proofs.RunColumns as K
 use Rattle.records.proofs.RunColumns.Laws as K′
-use Rattle.records.proofs.held as held
-use Rattle.records.proofs.held.Symbol as held-def
-use Rattle.records.proofs.held.Symbol.{name as #held}
-use Rattle.records.proofs.held.Met as held-thm
+use Rattle.records.proofs.copied_count as count
+use Rattle.records.proofs.copied_count.Symbol as count-def
+use Rattle.records.proofs.copied_count.Symbol.{name as #count}
+use Rattle.records.proofs.copied_count.Met as count-thm
 use Rattle.records.proofs.no_numbers as zeros
 use Rattle.records.proofs.no_numbers.Symbol as zeros-def
 use Rattle.records.proofs.no_numbers.Symbol.{name as #zeros}
@@ -164,8 +163,8 @@ module _ {M : Type 1} {𝓤 : URA M} {H : Heap 𝓤} {A : Atoms 𝓤} {Go : Type
 
 module _ {M : Type 1} (𝓤 : URA M) (H : Heap 𝓤) (A : Atoms 𝓤) (mem : Memory → SProp 𝓤) (run : Routine → Fun 𝓤) where
   -- the contracts that the proof cites
-  abbrev Held : Contract 𝓤
-  Held = tripleOf 𝓤 H A held.signature (held.spec 𝓤 H A mem run)
+  abbrev Count : Contract 𝓤
+  Count = tripleOf 𝓤 H A count.signature (count.spec 𝓤 H A mem run)
 
   abbrev Zeros : Contract 𝓤
   Zeros = tripleOf 𝓤 H A zeros.signature (zeros.spec 𝓤 H A mem run)
@@ -185,7 +184,7 @@ module _ {M : Type 1} (𝓤 : URA M) (H : Heap 𝓤) (A : Atoms 𝓤) (W : Given
   v = sliceVal (s .ptr) (length ys)
 
   abbrev n : ℕ
-  n = heldCount ys
+  n = copiedCount ys
 
   -- the token, and what runs owns
   abbrev Token : Item 𝓤
@@ -198,19 +197,19 @@ module _ {M : Type 1} (𝓤 : URA M) (H : Heap 𝓤) (A : Atoms 𝓤) (W : Given
   Post = walkOf 𝓤 H A f.ended stayed (f.clauses 𝓤 H A at-mem run) .post (((κ, tt), (q, tt), tt, (s, tt), (v ∷ [], tt)), tt)
 
   -- ---- the calls: what each is passed, what it asks, what it ensures, and what is known of its result
-  abbrev to-held : Held 𝓤 H A at-mem run .Ghost
-  to-held = ((tt, tt, tt, (length ys, tt), (vint w64 (length ys) ∷ [], tt)), tt)
+  abbrev to-count : Count 𝓤 H A at-mem run .Ghost
+  to-count = ((tt, tt, tt, (length ys, tt), (vint w64 (length ys) ∷ [], tt)), tt)
 
-  goes-held : ent 𝓤 (emp 𝓤) (Held 𝓤 H A at-mem run .pre to-held)
-  goes-held =
+  goes-count : ent 𝓤 (emp 𝓤) (Count 𝓤 H A at-mem run .pre to-count)
+  goes-count =
       qed W [] ∵ nothing ! $ owned ! usize (Is usize) (uint-makes 𝓤 H A W w64) (length ys) _ (refl, p .0 .1 .0) $ fjoin ! $ nothing ! $ join ! $
       frame ! $ done !
 
-  abbrev held-ensures : ℕ → SProp 𝓤
-  held-ensures = ensured 𝓤 H A held.ended (held.clauses 𝓤 H A at-mem run) tt (length ys, tt) tt
+  abbrev copied-ensures : ℕ → SProp 𝓤
+  copied-ensures = ensured 𝓤 H A count.ended (count.clauses 𝓤 H A at-mem run) tt (length ys, tt) tt
 
-  said-held : (r : ℕ) → ent 𝓤 (held-ensures r) (fact 𝓤 (r ≡ n))
-  said-held r = exE 𝓤 _ (λ ws. snd∗ 𝓤 (sem 𝓤 H A (lasts held.ended tt (length ys, tt) ws)) (fact 𝓤 (r ≡ n)))
+  said-count : (r : ℕ) → ent 𝓤 (copied-ensures r) (fact 𝓤 (r ≡ n))
+  said-count r = exE 𝓤 _ (λ ws. snd∗ 𝓤 (sem 𝓤 H A (lasts count.ended tt (length ys, tt) ws)) (fact 𝓤 (r ≡ n)))
 
   abbrev to-zeros : Zeros 𝓤 H A at-mem run .Ghost
   to-zeros = ((tt, tt, tt, tt, tt), tt)
@@ -293,7 +292,7 @@ module _ {M : Type 1} (𝓤 : URA M) (H : Heap 𝓤) (A : Atoms 𝓤) (W : Given
   next-fits : (i : Upto) → i .0 < n → WT (vint w64 (i .0 + 1))
   next-fits i l = record { fits = small (i .0 + 1) (add-one-le l) .0 }
 
-  module _ (𝓣 : Tables 𝓤 H) (known-held : Triple 𝓤 (𝓣 .C #held) (Held 𝓤 H A at-mem run))
+  module _ (𝓣 : Tables 𝓤 H) (known-count : Triple 𝓤 (𝓣 .C #count) (Count 𝓤 H A at-mem run))
       (known-zeros : Triple 𝓤 (𝓣 .C #zeros) (Zeros 𝓤 H A at-mem run)) (known-record-at : Triple 𝓤 (𝓣 .C #record-at) (RecordAt 𝓤 H A at-mem run))
       (known-made : Triple 𝓤 (𝓣 .C #made) (Made 𝓤 H A at-mem run)) where
     abbrev slice : Ty
@@ -507,9 +506,9 @@ module _ {M : Type 1} (𝓤 : URA M) (H : Heap 𝓤) (A : Atoms 𝓤) (W : Given
         pass1 ! (init ! 46 refl (shr-slice-lawful 𝓤 H A W (named 0) κ T.the-row .typed s (v ∷ []) p .0)) $ pass0 ! $
         assigns ! (of-opd ! (load ! (from ! (fld ! refl (stop !))) (look-in ! 46 (sub ! 1 refl (whole !))))) (spot !)
         (init ! 28 refl (tt, record { fits = p .0 .1 .0 })) $
-        use0 W (raw (Held 𝓤 H A at-mem run .pre to-held)) goes-held $
-        calls-at ! framed (Held 𝓤 H A at-mem run) known-held to-held (and-then ! (value ! 29 refl) (no-more !)) (λ u.
-        returned ! tt (‵ ftrue) usize held-ensures (λ m. m ≡ n) said-held u (λ m e is. drop ! $ drop ! $
+        use0 W (raw (Count 𝓤 H A at-mem run .pre to-count)) goes-count $
+        calls-at ! framed (Count 𝓤 H A at-mem run) known-count to-count (and-then ! (value ! 29 refl) (no-more !)) (λ u.
+        returned ! tt (‵ ftrue) usize copied-ensures (λ m. m ≡ n) said-count u (λ m e is. drop ! $ drop ! $
         land ! (spot !) (init ! 44 refl (uint-lawful 𝓤 H A W w64 .typed m _ is .0)) $
         rewrite ! 44 (λ (z : Val). ‵ (fat fullShare (tyInt w64) l₂ 0 z)) (ap only (is .0) ∙ ap (vint w64) e) refl $ forget ! 28 refl $
         use0 W (raw (Zeros 𝓤 H A at-mem run .pre to-zeros)) goes-zeros $
@@ -519,14 +518,14 @@ module _ {M : Type 1} (𝓤 : URA M) (H : Heap 𝓤) (A : Atoms 𝓤) (W : Given
         begins l₀ l₁ l₂ l₃ l₄ l₅ l₆ l₇ l₈ l₉ l₁₀ l₁₁ l₁₂ l₁₃ l₁₄ l₁₅ l₁₆ l₁₇ l₁₈ l₁₉ l₂₀ l₂₁ l₂₂ l₂₃ zs w e′ is′))))))))))))))))))))))))))))
 
 module _ {M : Type 1} (𝓤 : URA M) (H : Heap 𝓤) (A : Atoms 𝓤) (W : Given 𝓤 H A) (mem : Memory → SProp 𝓤) (run : Routine → Fun 𝓤) (𝓣 : Tables 𝓤 H)
-    (known-held : Triple 𝓤 (𝓣 .C #held) (Held 𝓤 H A mem run)) (known-zeros : Triple 𝓤 (𝓣 .C #zeros) (Zeros 𝓤 H A mem run))
+    (known-count : Triple 𝓤 (𝓣 .C #count) (Count 𝓤 H A mem run)) (known-zeros : Triple 𝓤 (𝓣 .C #zeros) (Zeros 𝓤 H A mem run))
     (known-record-at : Triple 𝓤 (𝓣 .C #record-at) (RecordAt 𝓤 H A mem run)) (known-made : Triple 𝓤 (𝓣 .C #made) (Made 𝓤 H A mem run)) where
   f-walks : Walks 𝓤 H A f.ended stayed (WpFn 𝓤 H (𝓣 .C) (𝓣 .Λ) code.function) (f.clauses 𝓤 H A mem run)
   f-walks =
       walked 𝓤 H A f.ended stayed (f.clauses 𝓤 H A mem run) (WpFn 𝓤 H (𝓣 .C) (𝓣 .Λ) code.function) (λ κs. (slice-vals, tt))
       (λ κs. (shr-slice-tells (named 0) (κs .0) T.the-row, tt))
       (λ κs qs bounds a g are.
-      via 𝓤 _ (fst∗ 𝓤 _ (emp 𝓤)) (walk 𝓤 H A W mem run (κs .0) (qs .0) (a .0) (are .0) 𝓣 known-held known-zeros known-record-at known-made))
+      via 𝓤 _ (fst∗ 𝓤 _ (emp 𝓤)) (walk 𝓤 H A W mem run (κs .0) (qs .0) (a .0) (are .0) 𝓣 known-count known-zeros known-record-at known-made))
 
   f-meets : Meets 𝓤 H A f.signature (WpFn 𝓤 H (𝓣 .C) (𝓣 .Λ) code.function) (f.spec 𝓤 H A mem run)
   f-meets =
@@ -539,7 +538,7 @@ columns-of-spec 𝓤 H 𝓜 𝓖 𝓡 =
     entered 𝓤 H (tripleOf 𝓤 H (𝓖 .A) f.signature (f.spec 𝓤 H (𝓖 .A) (𝓜 .mem) (𝓡 .run)))
     (tables 𝓤 H 𝓜 𝓡 code.env .C) (tables 𝓤 H 𝓜 𝓡 code.env .Λ) #key code.function (code.unfolded 𝓤 H 𝓜 𝓡)
     (f-meets 𝓤 H (𝓖 .A) (givenOf 𝓤 H 𝓜 𝓖) (𝓜 .mem) (𝓡 .run) (tablesOf 𝓤 H 𝓜 (tables 𝓤 H 𝓜 𝓡 code.env))
-    (cited 𝓤 H (Held 𝓤 H (𝓖 .A) (𝓜 .mem) (𝓡 .run)) 𝓜 𝓡 code.env #held held-def.routine code.calls-records·held (held-thm.met 𝓤 H 𝓜 𝓖 𝓡))
+    (cited 𝓤 H (Count 𝓤 H (𝓖 .A) (𝓜 .mem) (𝓡 .run)) 𝓜 𝓡 code.env #count count-def.routine code.calls-records·copied-count (count-thm.met 𝓤 H 𝓜 𝓖 𝓡))
     (cited 𝓤 H (Zeros 𝓤 H (𝓖 .A) (𝓜 .mem) (𝓡 .run)) 𝓜 𝓡 code.env #zeros zeros-def.routine code.calls-records·no-numbers
     (zeros-thm.met 𝓤 H 𝓜 𝓖 𝓡))
     (cited 𝓤 H (RecordAt 𝓤 H (𝓖 .A) (𝓜 .mem) (𝓡 .run)) 𝓜 𝓡 code.env #record-at record-at-def.routine code.calls-records·record-at

@@ -1,6 +1,5 @@
 -- `records::record_at` meets its contract: a walk of its MIR, by hand. The place of `runs[i]` is i times 12 past the pointer; the slice is looked into,
 -- element i is taken out of the row, read whole and put back. The code has no check of the bound: it is the contract's to ask.
--- Assumes nothing.
 use mathlib.Core.Path.{refl, sym}
 use Prim.Native.Nat.{ℕ, _*_, _<_, _^_}
 use native.Mathlib.Omega.{arith}

@@ -1,83 +1,55 @@
--- `report::print` meets its contract: the lists lent for planning are long enough for every table, and what they hold after a reply of 0 is printed.
-use Prim.Native.Nat.{_≤_}
+-- `report::print` meets its contract: what planning leaves is printed.
+use Prim.Native.Nat.{ℕ}
 use mathlib.Core.Path.{_≡_, sym, _∙_}
 use mathlib.Core.List.{List}
 use native.Mathlib.Omega.{arith}
-use lib.ListN.{length}
+use lib.ListN.{take}
 use lib.Seq.{length-take-le}
 use borrow.Author.Needs.{needs}
-use Rattle.table.specs.Reading.{tableIn}
-use Rattle.base.specs.Limits.{maxTasks, maxPlanRuns}
-use Rattle.plans.specs.Planning.{LentLists, listsFor}
-use Rattle.plans.proofs.ReplyLaws.{Replied}
-use Rattle.printed_plan.specs.Printing.{longReply}
-use Rattle.printed_plan.proofs.TextLaws.{refusal-length, printed-length, printed-refused, count-read, count-fits, runs-fit, text-is, print-clauses, print-none}
+use Rattle.printed_plan.specs.Printing.{planLines, printed}
+use Rattle.printed_plan.proofs.TextLaws.{printed-length, printed-refused, printed-planned}
+use Rattle.printed_plan.proofs.PrintLaws.{prints-put, prints-none, prints-same}
+use Rattle.report.specs.declared.FilePlan.{FilePlan}
+use Rattle.report.specs.FilePlans.{runsInPlan, PlanInLists}
 use Rattle.report.proofs.print.Statement.{statement}
 use Rattle.report.proofs.print.Tie as tie
 
--- the start of the call that planned, and the call after which a reply is looked at
-abbrev start : tie.After-plan-counted → tie.Start
-start c = c .before .before .before .before .before .before .before .before
+-- the call that planned, its start, and what it left
+abbrev planned : tie.Else2 → tie.After-plan-file
+planned c = c .before .before .before
 
-abbrev planned : tie.After-struct-known → tie.After-plan-counted
-planned c = c .before .before .before .before .before .before
+abbrev start : tie.After-plan-file → tie.Start
+start c = c .before .before .before .before
 
--- the lists that are lent, before and after planning
-abbrev old : LentLists
-old = listsFor maxTasks
+abbrev left : tie.Else2 → FilePlan
+left c = planned c .plan-file .result
 
-abbrev new : tie.After-plan-counted → LentLists
-new c =
-    record {
-      marks = c .plan-counted .last .1 .1 .0;
-      starts = c .plan-counted .last .1 .1 .1 .0;
-      ends = c .plan-counted .last .1 .1 .1 .1 .0;
-      tasks = c .plan-counted .last .1 .1 .1 .1 .1 .0;
-    }
+-- the plan stands in the lists
+in-lists : (c : tie.Else2) →
+    let args = start (planned c) .args in
+    PlanInLists (args .launch) (args .file .now) (left c)
+in-lists c = planned c .plan-file .ensures .made (c .if2 .left)
 
-replied : (c : tie.After-plan-counted) → Replied (start c .args .launch) (start c .args .file .now) (c .plan-counted .result .reply) old (new c)
-replied c =
-    let e = c .plan-counted .ensures in
-    record { reply-is = e .1 .0; lists-are = e .1 .1 }
+-- its text
+abbrev text : FilePlan → List ℕ
+text plan = planLines (plan .count) (plan .reply .kept) (plan .reply .discarded) (take (plan .count) (plan .marks)) (runsInPlan plan)
 
-long : (c : tie.After-plan-counted) → c .plan-counted .result .reply ≡ longReply (start c .args .launch) (start c .args .file .now)
-unfolding longReply
-long c = c .plan-counted .ensures .1 .0
-
-lengths : (c : tie.After-plan-counted)
-    → (length (new c .marks) ≡ maxTasks) × (length (new c .starts) ≡ maxPlanRuns) × (length (new c .ends) ≡ maxPlanRuns) × (length (new c .tasks) ≡ maxPlanRuns)
-lengths c = omega (arith, c .plan-counted .kept)
-
--- after a reply of 0
-counted : (c : tie.Else2) → planned (c .before) .plan-counted .result .count ≡ tableIn (start (planned (c .before)) .args .file .now) .count
-counted c = count-read _ _ _ _ _ (replied (planned (c .before))) (c .if2 .left) _ (planned (c .before) .plan-counted .ensures .0)
-
-few : (c : tie.Else2) → planned (c .before) .plan-counted .result .reply .runs ≤ maxPlanRuns
-few c = runs-fit _ _ _ _ _ (replied (planned (c .before))) (c .if2 .left)
+-- is that of the file
+text-is : (c : tie.Else2) →
+    let args = start (planned c) .args in
+    text (left c) ≡ printed (args .launch) (args .file .now)
+text-is c =
+    let m = in-lists c in
+    printed-planned _ _ (left c .reply) (planned c .plan-file .ensures .reply-is) (c .if2 .left) _ _ _ (m .count-is) (m .marks-are) (m .runs-are)
 
 returns : tie.Need-returns
-returns c = print-none _ _ (c .if1 .taken)
+returns c = prints-none _ _ (c .if1 .taken)
 
-slice-aggregate-plan-counted : tie.Need-slice-aggregate-plan-counted
-slice-aggregate-plan-counted c = search needs
+plan-file-requires : tie.Need-plan-file-requires
+plan-file-requires c κs = search needs
 
-slice-aggregate-plan-counted-2 : tie.Need-slice-aggregate-plan-counted-2
-slice-aggregate-plan-counted-2 c = search needs
-
-slice-aggregate-plan-counted-3 : tie.Need-slice-aggregate-plan-counted-3
-slice-aggregate-plan-counted-3 c = search needs
-
-slice-aggregate-plan-counted-4 : tie.Need-slice-aggregate-plan-counted-4
-slice-aggregate-plan-counted-4 c = search needs
-
-plan-counted-requires : tie.Need-plan-counted-requires
-plan-counted-requires c κs = search needs
-
-put-refusal-requires : tie.Need-put-refusal-requires
-put-refusal-requires c κs =
-    let plan = planned (c .before .before) in
-    let reply = plan .plan-counted .result .reply in
-    omega (arith, refusal-length (reply .number) (reply .place), plan .before .before .before .before .before .if1 .left)
+print-refusal-requires : tie.Need-print-refusal-requires
+print-refusal-requires c κs = search needs
 
 same-length : tie.Need-same-length
 same-length c = search needs
@@ -85,49 +57,46 @@ same-length c = search needs
 returns-2 : tie.Need-returns-2
 returns-2 c =
     let refused = c .before .before .before .before in
-    let plan = planned (refused .before) in
-    print-clauses _ _ _ _ _ (plan .before .before .before .before .before .if1 .left)
-    (printed-refused _ _ (plan .plan-counted .result .reply) (long plan) (refused .if2 .taken)) (c .before .before .put-refusal .ensures)
+    let plan = refused .before .before .before in
+    prints-same _ _ _ _ _ (printed-refused _ _ (plan .plan-file .result .reply) (plan .plan-file .ensures .reply-is) (refused .if2 .taken))
+    (c .before .before .print-refusal .ensures)
 
 cast-places : tie.Need-cast-places
 cast-places c = search needs
 
 array-share-prefix-marks : tie.Need-array-share-prefix-marks
-array-share-prefix-marks c =
-    let plan = planned (c .before .before) in
-    omega (arith, counted (c .before), lengths plan, count-fits _ _ _ _ _ (replied plan) (c .before .if2 .left))
+array-share-prefix-marks c = in-lists (c .before .before .before .before .before) .marks-there
 
 slice-aggregate-put-plan : tie.Need-slice-aggregate-put-plan
 slice-aggregate-put-plan c = sym (length-take-le _ _ (array-share-prefix-marks (c .before)))
 
 array-share-prefix-starts : tie.Need-array-share-prefix-starts
-array-share-prefix-starts c = omega (arith, lengths (planned (c .before .before .before)), few (c .before .before))
+array-share-prefix-starts c = in-lists (c .before .before .before .before .before .before) .starts-there
 
 slice-aggregate-put-plan-2 : tie.Need-slice-aggregate-put-plan-2
 slice-aggregate-put-plan-2 c = sym (length-take-le _ _ (array-share-prefix-starts (c .before)))
 
 array-share-prefix-ends : tie.Need-array-share-prefix-ends
-array-share-prefix-ends c = omega (arith, lengths (planned (c .before .before .before .before)), few (c .before .before .before))
+array-share-prefix-ends c = in-lists (c .before .before .before .before .before .before .before) .ends-there
 
 slice-aggregate-put-plan-3 : tie.Need-slice-aggregate-put-plan-3
 slice-aggregate-put-plan-3 c = sym (length-take-le _ _ (array-share-prefix-ends (c .before)))
 
 array-share-prefix-tasks : tie.Need-array-share-prefix-tasks
-array-share-prefix-tasks c = omega (arith, lengths (planned (c .before .before .before .before .before)), few (c .before .before .before .before))
+array-share-prefix-tasks c = in-lists (c .before .before .before .before .before .before .before .before) .tasks-there
 
 slice-aggregate-put-plan-4 : tie.Need-slice-aggregate-put-plan-4
 slice-aggregate-put-plan-4 c = sym (length-take-le _ _ (array-share-prefix-tasks (c .before)))
 
 put-plan-requires : tie.Need-put-plan-requires
 put-plan-requires c κs =
-    let taken = c .before .before .before .before .before in
-    let plan = planned (taken .before) in (
+    let else = c .before .before .before .before .before .before .before .before .before in
+    let args = start (planned else) .args in (
       (
-        sym (slice-aggregate-put-plan-3 (c .before)) ∙ slice-aggregate-put-plan-2 (c .before .before),
-        sym (slice-aggregate-put-plan-4 c) ∙ slice-aggregate-put-plan-2 (c .before .before),
+        sym (slice-aggregate-put-plan-2 (c .before .before)) ∙ slice-aggregate-put-plan-3 (c .before),
+        sym (slice-aggregate-put-plan-2 (c .before .before)) ∙ slice-aggregate-put-plan-4 c,
       ),
-      rw (text-is _ _ _ _ _ (replied plan) (taken .if2 .left) _ (counted taken) (long plan))
-          (omega (arith, printed-length (start plan .args .launch) (start plan .args .file .now), plan .before .before .before .before .before .if1 .left)),
+      rw (text-is else) (omega (arith, printed-length (args .launch) (args .file .now), planned else .before .if1 .left)),
     )
 
 same-length-2 : tie.Need-same-length-2
@@ -135,22 +104,17 @@ same-length-2 c = search needs
 
 returns-3 : tie.Need-returns-3
 returns-3 c =
-    let taken = c .before .before .before .before .before .before .before .before in
-    let plan = planned (taken .before) in
-    print-clauses _ _ _ _ _ (plan .before .before .before .before .before .if1 .left)
-    (text-is _ _ _ _ _ (replied plan) (taken .if2 .left) _ (counted taken) (long plan)) (c .before .before .put-plan .ensures)
+    let else = c .before .before .before .before .before .before .before .before .before .before .before .before in
+    prints-same (text (left else)) _ _ _ _ (text-is else)
+    (prints-put (text (left else)) _ _ _ (planned else .before .if1 .left) (c .before .before .put-plan .ensures))
 
 pub print-spec : {M : Type 1} → statement M
 print-spec =
     tie.close
     (tie.spec
     returns
-    slice-aggregate-plan-counted
-    slice-aggregate-plan-counted-2
-    slice-aggregate-plan-counted-3
-    slice-aggregate-plan-counted-4
-    plan-counted-requires
-    put-refusal-requires
+    plan-file-requires
+    print-refusal-requires
     same-length
     returns-2
     cast-places

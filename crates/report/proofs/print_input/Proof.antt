@@ -1,28 +1,24 @@
--- `report::print_input` meets its contract: the input's length says which text is put.
+-- `report::print_input` meets its contract: the input's length says which text is printed.
+use mathlib.Core.Path.{_∙_}
 use native.Mathlib.Omega.{arith}
 use borrow.Author.Needs.{needs}
-use lib.ListN.{length}
-use Rattle.printed_plan.proofs.TextLaws.{refusal-length, print-clauses, print-none}
-use Rattle.printed_plan.proofs.InputLaws.{input-short, input-clauses}
+use Rattle.printed_plan.specs.ProgramInput.{planFront, planOfInput}
+use Rattle.printed_plan.proofs.PrintLaws.{prints-same}
+use Rattle.printed_plan.proofs.InputLaws.{output-short, output-whole, plan-of-input}
 use Rattle.report.proofs.print_input.Statement.{statement}
 use Rattle.report.proofs.print_input.Tie as tie
 
-returns : tie.Need-returns
-returns c = print-none _ _ (c .if1 .taken)
-
-put-refusal-requires : tie.Need-put-refusal-requires
-put-refusal-requires c κs = omega (arith, refusal-length 1 (length (c .before .before .before .before .before .args .input .now)), c .before .before .if1 .left)
+print-refusal-requires : tie.Need-print-refusal-requires
+print-refusal-requires c κs = search needs
 
 same-length : tie.Need-same-length
 same-length c = search needs
 
-returns-2 : tie.Need-returns-2
-returns-2 c =
-    let short = c .before .before .before .before in
-    print-clauses _ _ _ _ _ (short .before .if1 .left) (input-short _ (omega arith)) (c .before .before .put-refusal .ensures)
+returns : tie.Need-returns
+returns c = prints-same _ _ _ _ _ (output-short planFront planOfInput _ (omega arith)) (c .before .before .print-refusal .ensures)
 
-launch-in-requires : tie.Need-launch-in-requires
-launch-in-requires c κs = search needs
+number-in-requires : tie.Need-number-in-requires
+number-in-requires c κs = search needs
 
 sub-print : tie.Need-sub-print
 sub-print c = search needs
@@ -39,24 +35,23 @@ print-requires c κs = search needs
 same-length-2 : tie.Need-same-length-2
 same-length-2 c = search needs
 
-returns-3 : tie.Need-returns-3
-returns-3 c =
+returns-2 : tie.Need-returns-2
+returns-2 c =
     let launch = c .before .before .before .before .before in
-    let text = c .before .before .print .ensures in
-    input-clauses _ _ _ _ _ (launch .before .if2 .left) (launch .launch-in .ensures) (text .0) (text .1)
+    prints-same _ _ _ _ _ (plan-of-input _ _ (launch .number-in .ensures) ∙ output-whole planFront planOfInput _ (launch .before .if1 .left))
+    (c .before .before .print .ensures)
 
 pub print-input-spec : {M : Type 1} → statement M
 print-input-spec =
     tie.close
     (tie.spec
-    returns
-    put-refusal-requires
+    print-refusal-requires
     same-length
-    returns-2
-    launch-in-requires
+    returns
+    number-in-requires
     sub-print
     part-print-start
     part-print-end
     print-requires
     same-length-2
-    returns-3)
+    returns-2)

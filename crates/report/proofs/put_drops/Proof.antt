@@ -25,18 +25,23 @@ loop-holds c =
 shared-slice-read-if1 : tie.Need-shared-slice-read-if1 Inv-loop μ-loop
 shared-slice-read-if1 c = omega arith
 
+-- the loop, and the arguments before it
+abbrev loop : tie.Then1 Inv-loop μ-loop → tie.At-loop Inv-loop μ-loop
+loop c = c .before .before .before
+
+abbrev start : tie.Then1 Inv-loop μ-loop → tie.Start Inv-loop μ-loop
+start c = loop c .before .before .before
+
 -- the line of a position that is discarded stands first in what is left
-next-line : (c : tie.Then1 Inv-loop μ-loop)
-    → Putting (dropLines (c .before .before .before .before .before .before .args .marks .now)) (c .before .before .before .before .before .before .args .at)
-    (c .before .before .before .before .before .before .args .out .now)
-    (line dropWord (c .before .before .before .loop .i ∷ []) ++ dropsLeft (c .before .before .before .before .before .before .args .marks .now) (c .before .before .before .loop .i + 1))
-    (c .before .before .before .loop .next) (c .before .before .before .loop .out)
+next-line : (c : tie.Then1 Inv-loop μ-loop) →
+    let a = start c .args in
+    let l = loop c .loop in
+    Putting (dropLines (a .marks .now)) (a .at) (a .out .now) (line dropWord (l .i ∷ []) ++ dropsLeft (a .marks .now) (l .i + 1)) (l .next) (l .out)
 next-line c =
-    let marks = c .before .before .before .before .before .before .args .marks .now in
-    rw (drops-step marks (c .before .before .before .loop .i) (c .before .before .loop-test .taken) (c .if1 .taken)) at (c .before .before .before .loop .inv .1)
+    rw (drops-step (start c .args .marks .now) (loop c .loop .i) (c .before .before .loop-test .taken) (c .if1 .taken)) at (loop c .loop .inv .1)
 
 put-drop-requires : tie.Need-put-drop-requires Inv-loop μ-loop
-put-drop-requires c κs = putting-fits _ _ _ (c .before .before .before .before .before .before .before .pre) (line dropWord (c .before .before .before .before .loop .i ∷ [])) _ _ _ (next-line (c .before))
+put-drop-requires c κs = putting-fits _ _ _ (start (c .before) .pre) (line dropWord (loop (c .before) .loop .i ∷ [])) _ _ _ (next-line (c .before))
 
 add-i : tie.Need-add-i Inv-loop μ-loop
 add-i c = omega arith

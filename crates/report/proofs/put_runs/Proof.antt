@@ -3,7 +3,8 @@ use Prim.Native.Nat.{ℕ, _+_, _-_, _≤_}
 use mathlib.Core.List.{List, _++_}
 use native.Mathlib.Omega.{arith}
 use lib.ListN.{length}
-use Rattle.schedule.specs.Runs.{runAt, runsOf}
+use Rattle.schedule.specs.declared.Run.{Run}
+use Rattle.schedule.specs.Runs.{runAtIndex, runsOf}
 use Rattle.printed_plan.specs.Printing.{runLine, runLines}
 use Rattle.lines.proofs.PutLaws.{Putting, putting-start, putting-room, putting-fits, putting-step, putting-end}
 use Rattle.printed_plan.proofs.LineLaws.{runsLeft, runs-start, runs-step, runs-end}
@@ -17,11 +18,37 @@ Inv-loop out₀ at starts ends tasks next₀ i₀ out next i =
 abbrev μ-loop : tie.MeasureT-loop
 μ-loop out₀ at starts ends tasks next₀ i₀ out next i = length starts - i
 
+-- the arguments before the loop, and in it the runs and the RUN lines of those from place k on
+abbrev start : tie.In-loop Inv-loop μ-loop → tie.Start Inv-loop μ-loop
+start c = c .before .before .before .before .before .before
+
+abbrev runs : tie.Start Inv-loop μ-loop → List Run
+runs c = runsOf (c .args .starts .now) (c .args .ends .now) (c .args .tasks .now)
+
+abbrev left : tie.Start Inv-loop μ-loop → ℕ → List ℕ
+left c = runsLeft (c .args .starts .now) (c .args .ends .now) (c .args .tasks .now)
+
+-- the line of the next run
+abbrev next : tie.In-loop Inv-loop μ-loop → List ℕ
+next c =
+    let a = start c .args in
+    runLine (runAtIndex (a .starts .now) (a .ends .now) (a .tasks .now) (c .before .loop .i))
+
+-- it stands first in what is left
+next-line : (c : tie.In-loop Inv-loop μ-loop) →
+    let a = start c .args in
+    let loop = c .before .loop in
+    Putting (runLines (runs (start c))) (a .at) (a .out .now) (next c ++ left (start c) (loop .i + 1)) (loop .next) (loop .out)
+next-line c =
+    let a = start c .args in
+    rw (runs-step (a .starts .now) (a .ends .now) (a .tasks .now) (c .before .loop .i) (c .loop-test .taken)) at (c .before .loop .inv .1)
+
 loop-holds : tie.Need-loop-holds Inv-loop μ-loop
 loop-holds c =
     let start = c .before .before .before .before in
     let a = start .args in
-    (omega arith, rw (← runs-start (a .starts .now) (a .ends .now) (a .tasks .now)) (putting-start (runLines (runsOf (a .starts .now) (a .ends .now) (a .tasks .now))) (a .at) (a .out .now) (start .pre .1)))
+    let whole = putting-start (runLines (runs start)) (a .at) (a .out .now) (start .pre .1) in
+    (omega arith, rw (← runs-start (a .starts .now) (a .ends .now) (a .tasks .now)) whole)
 
 mul-put-run : tie.Need-mul-put-run Inv-loop μ-loop
 mul-put-run c = omega arith
@@ -41,23 +68,11 @@ mul-put-run-3 c = omega arith
 shared-slice-read-put-run-3 : tie.Need-shared-slice-read-put-run-3 Inv-loop μ-loop
 shared-slice-read-put-run-3 c = omega arith
 
--- the line of the next run
-abbrev next : tie.In-loop Inv-loop μ-loop → List ℕ
-next c = runLine (runAt (c .before .before .before .before .before .before .args .starts .now) (c .before .before .before .before .before .before .args .ends .now) (c .before .before .before .before .before .before .args .tasks .now) (c .before .loop .i))
-
--- it stands first in what is left
-next-line : (c : tie.In-loop Inv-loop μ-loop)
-    → Putting (runLines (runsOf (c .before .before .before .before .before .before .args .starts .now) (c .before .before .before .before .before .before .args .ends .now) (c .before .before .before .before .before .before .args .tasks .now))) (c .before .before .before .before .before .before .args .at) (c .before .before .before .before .before .before .args .out .now)
-    (next c ++ runsLeft (c .before .before .before .before .before .before .args .starts .now) (c .before .before .before .before .before .before .args .ends .now) (c .before .before .before .before .before .before .args .tasks .now) (c .before .loop .i + 1)) (c .before .loop .next) (c .before .loop .out)
-next-line c =
-    let a = c .before .before .before .before .before .before .args in
-    rw (runs-step (a .starts .now) (a .ends .now) (a .tasks .now) (c .before .loop .i) (c .loop-test .taken)) at (c .before .loop .inv .1)
-
 put-run-requires : tie.Need-put-run-requires Inv-loop μ-loop
-unfolding runLine runAt
+unfolding runLine runAtIndex
 put-run-requires c κs =
     let inside = c .before .before .before .before in
-    putting-fits _ _ _ (inside .before .before .before .before .before .before .pre .1) (next inside) _ _ _ (next-line inside)
+    putting-fits _ _ _ (start inside .pre .1) (next inside) _ _ _ (next-line inside)
 
 add-i : tie.Need-add-i Inv-loop μ-loop
 add-i c = omega arith
@@ -66,10 +81,10 @@ loop-less : tie.Need-loop-less Inv-loop μ-loop
 loop-less c = omega arith
 
 loop-again : tie.Need-loop-again Inv-loop μ-loop
-unfolding runLine runAt
+unfolding runLine runAtIndex
 loop-again c =
     let inside = c .before .before .before .before .before .before .before in
-    (omega arith, putting-step _ _ _ (inside .before .before .before .before .before .before .pre .1) _ _ _ _ _ _ (next-line inside) (c .before .before .put-run .ensures))
+    (omega arith, putting-step _ _ _ (start inside .pre .1) _ _ _ _ _ _ (next-line inside) (c .before .before .put-run .ensures))
 
 same-length : tie.Need-same-length Inv-loop μ-loop
 same-length c = putting-room _ _ _ (c .before .before .before .before .before .before .pre .1) _ _ _ (c .before .loop .inv .1) .0
@@ -78,7 +93,8 @@ returns : tie.Need-returns Inv-loop μ-loop
 returns c =
     let start = c .before .before .before .before .before .before in
     let a = start .args in
-    putting-end _ _ _ (start .pre .1) _ _ (rw (runs-end (a .starts .now) (a .ends .now) (a .tasks .now) (c .before .loop .i) (c .loop-test .left)) at (c .before .loop .inv .1))
+    let none = runs-end (a .starts .now) (a .ends .now) (a .tasks .now) (c .before .loop .i) (c .loop-test .left) in
+    putting-end _ _ _ (start .pre .1) _ _ (rw none at (c .before .loop .inv .1))
 
 pub put-runs-spec : {M : Type 1} → statement M
 put-runs-spec =

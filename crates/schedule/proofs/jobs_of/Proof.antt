@@ -4,7 +4,8 @@ use native.Mathlib.Omega.{arith}
 use Rattle.base.specs.Limits.{maxTasks}
 use Rattle.base.proofs.ArrayFilling.{Filled, filled-start, filled-set, filled-whole}
 use Rattle.table.specs.Tables.{taskAt}
-use Rattle.schedule.specs.Jobs.{noJob, jobAt}
+use Rattle.schedule.specs.Jobs.{jobAt}
+use Rattle.schedule.specs.JobArrays.{noJob}
 use Rattle.schedule.proofs.jobs_of.Statement.{statement}
 use Rattle.schedule.proofs.jobs_of.Tie as tie
 

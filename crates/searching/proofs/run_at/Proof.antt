@@ -7,9 +7,9 @@ use borrow.Author.Needs.{needs}
 use lib.ListN.{length, getD}
 use Rattle.schedule.specs.declared.RunsAnswer.the-variants as checked
 use Rattle.schedule.specs.Runs.{noRun, runsOf}
-use Rattle.schedule.specs.RunCheck.{runsAnswer}
+use Rattle.schedule.specs.RunCheck.{checkAnswer}
 use Rattle.schedule.proofs.ColumnLaws.{start-at}
-use Rattle.schedule.proofs.SearchLaws.{at-refused, at-found, at-ended, at-not-begun, firstEnding}
+use Rattle.schedule.proofs.SearchLaws.{at-found, at-ended, at-not-begun, firstEnding}
 use Rattle.checking.proofs.OrderLaws.{told-refused, columns-few}
 use Rattle.searching.proofs.ColumnLaws.{ending-first, ends-column}
 use Rattle.searching.proofs.FoundLaws.{refusal, past-end, run-there}
@@ -24,7 +24,7 @@ start-there starts ends tasks tick i place here l P h = rw (← here, start-at s
 -- past the `let .. else` the list is accepted
 accepted : (c : tie.After-enum-told) →
     let args = c .before .before .before .before .before .before .args in
-    runsAnswer (runsOf (args .starts .now) (args .ends .now) (args .tasks .now)) ≡ checked.Accepted
+    checkAnswer (runsOf (args .starts .now) (args .ends .now) (args .tasks .now)) ≡ checked.Accepted
 accepted c = sym (c .before .before .check .ensures _) ∙ c .enum-told .given .1
 
 -- and the search finds the first run that ends after the tick
@@ -36,7 +36,7 @@ place c = c .first-from .ensures ∙ ending-first _ _ _ _ (c .before .before .be
 returns : tie.Need-returns
 returns c =
     let check = c .before .before .check in
-    refusal _ _ (at-refused _ _) _ (check .ensures _) (told-refused (check .result) (c .before .match .keys2)) _ (c .refused .ensures)
+    refusal _ _ _ (check .ensures _) (told-refused (check .result) (c .before .match .keys2)) _ (c .none-found .ensures)
 
 first-from-requires : tie.Need-first-from-requires
 first-from-requires c κs =

@@ -1,6 +1,6 @@
 -- `searching::run_at_index` meets its contract: the index is below the length of each column.
 use borrow.Author.Needs.{needs}
-use Rattle.schedule.specs.Runs.{runAt}
+use Rattle.schedule.specs.Runs.{runAtIndex}
 use Rattle.searching.proofs.run_at_index.Statement.{statement}
 use Rattle.searching.proofs.run_at_index.Tie as tie
 
@@ -23,7 +23,7 @@ shared-slice-read-t13 : tie.Need-shared-slice-read-t13
 shared-slice-read-t13 c = search needs
 
 returns : tie.Need-returns
-unfolding runAt
+unfolding runAtIndex
 returns c = search needs
 
 pub run-at-index-spec : {M : Type 1} → statement M

@@ -3,8 +3,8 @@ use mathlib.Core.Path.{_≡_, sym, _∙_}
 use borrow.Author.Needs.{needs}
 use Rattle.schedule.specs.declared.RunsAnswer.the-variants as checked
 use Rattle.schedule.specs.Runs.{runsOf}
-use Rattle.schedule.specs.RunCheck.{runsAnswer}
-use Rattle.schedule.proofs.SearchLaws.{from-refused, from-found, from-started}
+use Rattle.schedule.specs.RunCheck.{checkAnswer}
+use Rattle.schedule.proofs.SearchLaws.{from-found, from-started}
 use Rattle.checking.proofs.OrderLaws.{told-refused, columns-few}
 use Rattle.searching.proofs.ColumnLaws.{starting-first, starts-column}
 use Rattle.searching.proofs.FoundLaws.{refusal, past-end, run-there}
@@ -14,13 +14,13 @@ use Rattle.searching.proofs.run_from.Tie as tie
 -- past the `let .. else` the list is accepted
 accepted : (c : tie.After-enum-told) →
     let args = c .before .before .before .before .before .before .args in
-    runsAnswer (runsOf (args .starts .now) (args .ends .now) (args .tasks .now)) ≡ checked.Accepted
+    checkAnswer (runsOf (args .starts .now) (args .ends .now) (args .tasks .now)) ≡ checked.Accepted
 accepted c = sym (c .before .before .check .ensures _) ∙ c .enum-told .given .1
 
 returns : tie.Need-returns
 returns c =
     let check = c .before .before .check in
-    refusal _ _ (from-refused _ _) _ (check .ensures _) (told-refused (check .result) (c .before .match .keys2)) _ (c .refused .ensures)
+    refusal _ _ _ (check .ensures _) (told-refused (check .result) (c .before .match .keys2)) _ (c .none-found .ensures)
 
 returns-2 : tie.Need-returns-2
 returns-2 c =

@@ -12,7 +12,7 @@ use Rattle.base.specs.Lowest.{lowest}
 use Rattle.schedule.specs.declared.RunsAnswer.the-variants as checked
 use Rattle.schedule.specs.declared.Stretch.{Stretch}
 use Rattle.schedule.specs.Runs.{runsOf}
-use Rattle.schedule.specs.RunCheck.{runsAnswer, runsAccepted}
+use Rattle.schedule.specs.RunCheck.{checkAnswer, runsAccepted}
 use Rattle.schedule.specs.Queries.{touches, stretchOf}
 use Rattle.schedule.proofs.StretchLaws.{Stretched, interval-stretched, empty-stretched, stretch-is, stretch-refused}
 use Rattle.checking.proofs.OrderLaws.{told-refused, columns-few}
@@ -20,7 +20,7 @@ use Rattle.searching.proofs.ColumnLaws.{ending-first, starting-first, s
 use Rattle.searching.proofs.stretch.Statement.{statement}
 use Rattle.searching.proofs.stretch.Tie as tie
 
-module _ (starts ends tasks : List ℕ) (a b : ℕ) (accepted : runsAnswer (runsOf starts ends tasks) ≡ checked.Accepted) where
+module _ (starts ends tasks : List ℕ) (a b : ℕ) (accepted : checkAnswer (runsOf starts ends tasks) ≡ checked.Accepted) where
   -- an empty interval
   none-interval : b ≤ a → _≡_ {A = Stretch} (record { first = 0; runs = 0 }) (stretchOf (runsOf starts ends tasks) a b)
   none-interval h = sym (stretch-is (runsOf starts ends tasks) a b 0 0 accepted (empty-stretched (runsOf starts ends tasks) a b h))
@@ -43,7 +43,7 @@ module _ (starts ends tasks : List ℕ) (a b : ℕ) (accepted : runsAnswer (runs
 
 -- past the `let .. else` the list is accepted
 accepted : (c : tie.After-enum-told) (tasks : List ℕ) →
-    let args = c .before .before .before .before .before .args in runsAnswer (runsOf (args .starts .now) (args .ends .now) tasks) ≡ checked.Accepted
+    let args = c .before .before .before .before .before .args in checkAnswer (runsOf (args .starts .now) (args .ends .now) tasks) ≡ checked.Accepted
 accepted c tasks = sym (c .before .before .check .ensures tasks) ∙ c .enum-told .given .1
 
 check-requires : tie.Need-check-requires

@@ -4,7 +4,7 @@ use mathlib.Core.Path.{_≡_, sym}
 use mathlib.Core.Bool.{true}
 use native.Mathlib.Omega.{arith}
 use lib.ListN.{getD}
-use Rattle.schedule.specs.Jobs.{noJob, Bounded}
+use Rattle.schedule.specs.JobArrays.{noJob, Bounded}
 use Rattle.sequence.proofs.WalkLaws.{Timely, timely-start, timely-step, timely-over, timely-fits}
 use Rattle.sequencing.proofs.all_fit.Statement.{statement}
 use Rattle.sequencing.proofs.all_fit.Tie as tie

@@ -3,8 +3,8 @@ use Prim.Native.Nat.{_≤_}
 use mathlib.Core.Path.{_∙_}
 use native.Mathlib.Omega.{arith}
 use borrow.Author.Needs.{needs}
-use Rattle.base.specs.Places.{firstPlaces}
-use Rattle.schedule.specs.Jobs.{noJob}
+use Rattle.base.specs.Arrays.{firstPlaces}
+use Rattle.schedule.specs.JobArrays.{noJob}
 use Rattle.sequence.proofs.KeptRowLaws.{Gives, most-gives}
 use Rattle.sequencing.proofs.choose_in.Statement.{statement}
 use Rattle.sequencing.proofs.choose_in.Tie as tie

@@ -4,7 +4,7 @@ use mathlib.Core.Path.{_≡_, sym}
 use mathlib.Core.Bool.{false}
 use native.Mathlib.Omega.{arith}
 use lib.ListN.{getD}
-use Rattle.schedule.specs.Jobs.{noJob, Bounded}
+use Rattle.schedule.specs.JobArrays.{noJob, Bounded}
 use Rattle.sequence.proofs.LateLaws.{mandatory-work}
 use Rattle.sequence.proofs.WalkLaws.{Timely, timely-start, timely-step, timely-late, timely-end}
 use Rattle.sequencing.proofs.first_late.Statement.{statement}

@@ -5,7 +5,7 @@ use native.Mathlib.Omega.{arith}
 use borrow.Author.Needs.{needs}
 use lib.ListN.{getD}
 use Rattle.base.proofs.PlaceLaws.{left-start}
-use Rattle.schedule.specs.Jobs.{noJob}
+use Rattle.schedule.specs.JobArrays.{noJob}
 use Rattle.choice.proofs.BuildLaws.{countOne-most}
 use Rattle.sequence.proofs.KeptRowLaws.{Counted, counted-start, counted-step}
 use Rattle.sequencing.proofs.parts_of.Statement.{statement}

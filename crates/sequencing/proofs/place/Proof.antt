@@ -6,7 +6,7 @@ use borrow.Author.Needs.{needs}
 use lib.ListN.{getD, length}
 use mathlib.Core.Bool.{false}
 use Rattle.base.specs.Limits.{lastTick}
-use Rattle.schedule.specs.Jobs.{noJob, Bounded}
+use Rattle.schedule.specs.JobArrays.{noJob, Bounded}
 use Rattle.sequence.proofs.WalkLaws.{Laid, laid-start, laid-passed, laid-run, laid-room, laid-end}
 use Rattle.sequencing.proofs.place.Statement.{statement}
 use Rattle.sequencing.proofs.place.Tie as tie

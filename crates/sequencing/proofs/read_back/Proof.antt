@@ -5,8 +5,8 @@ use mathlib.Core.Logic.{⊎-elim}
 use native.Mathlib.Omega.{arith}
 use borrow.Author.Needs.{needs}
 use lib.ListN.{getD}
-use Rattle.base.specs.Places.{firstPlaces}
-use Rattle.schedule.specs.Jobs.{noJob}
+use Rattle.base.specs.Arrays.{firstPlaces}
+use Rattle.schedule.specs.JobArrays.{noJob}
 use Rattle.sequence.specs.KeptRows.{marksBack}
 use Rattle.sequence.proofs.KeptRowLaws.{row-below, Walked, mandatory-below, walked-start, left-more, walked-kept, walked-discarded, walked-room, walked-end}
 use Rattle.sequencing.proofs.read_back.Statement.{statement}

@@ -5,7 +5,7 @@ use native.Mathlib.Omega.{arith}
 use borrow.Author.Needs.{needs}
 use lib.ListN.{length, getD, length-set}
 use Rattle.base.proofs.PlaceLaws.{left-start}
-use Rattle.schedule.specs.Jobs.{noJob, Bounded}
+use Rattle.schedule.specs.JobArrays.{noJob, Bounded}
 use Rattle.choice.specs.Decisions.{rowPlaces}
 use Rattle.choice.proofs.BuildLaws.{countOne-most}
 use Rattle.sequence.proofs.KeptRowLaws.{Built, built-start, before-below, built-step}

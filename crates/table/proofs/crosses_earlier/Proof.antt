@@ -6,7 +6,6 @@ use native.Mathlib.Omega.{arith}
 use borrow.Author.Needs.{needs}
 use Rattle.base.specs.Tests.{or}
 use Rattle.base.specs.Lowest.{someBelow}
-use Rattle.base.proofs.TestLaws.{or-is}
 use Rattle.base.proofs.LowestLaws.{some-none, some-more}
 use Rattle.table.specs.Windows.{nested}
 use Rattle.table.specs.WindowColumns.{windowAt}
@@ -22,17 +21,8 @@ abbrev μ-loop : tie.MeasureT-loop
 loop-holds : tie.Need-loop-holds Inv-loop μ-loop
 loop-holds c = (omega arith, sym (some-none _))
 
-mul-t9 : tie.Need-mul-t9 Inv-loop μ-loop
-mul-t9 c = omega arith
-
-shared-slice-read-t11 : tie.Need-shared-slice-read-t11 Inv-loop μ-loop
-shared-slice-read-t11 c = omega arith
-
-mul-t12 : tie.Need-mul-t12 Inv-loop μ-loop
-mul-t12 c = omega arith
-
-shared-slice-read-t14 : tie.Need-shared-slice-read-t14 Inv-loop μ-loop
-shared-slice-read-t14 c = omega arith
+window-at-requires : tie.Need-window-at-requires Inv-loop μ-loop
+window-at-requires c κs = omega arith
 
 are-nested-requires : tie.Need-are-nested-requires Inv-loop μ-loop
 are-nested-requires c κs = search needs
@@ -45,8 +35,9 @@ loop-less c = omega arith
 
 loop-again : tie.Need-loop-again Inv-loop μ-loop
 loop-again c =
-    let l = c .before .before .before .before .loop in
-    (omega arith, or-is (l .crossing) (not (c .are-nested .result)) ∙ (ap₂ or (l .inv .1) (ap not (c .are-nested .ensures)) ∙ sym (some-more _ (l .j))))
+    let l = c .before .before .before .loop in
+    let test = rw (c .before .window-at .ensures) at (c .are-nested .ensures) in
+    (omega arith, ap₂ or (l .inv .1) (ap not test) ∙ sym (some-more _ (l .j)))
 
 returns : tie.Need-returns Inv-loop μ-loop
 returns c =
@@ -60,10 +51,7 @@ crosses-earlier-spec =
     Inv-loop
     μ-loop
     loop-holds
-    mul-t9
-    shared-slice-read-t11
-    mul-t12
-    shared-slice-read-t14
+    window-at-requires
     are-nested-requires
     add-j
     loop-less

@@ -18,23 +18,16 @@ abbrev μ-loop : tie.MeasureT-loop
 loop-holds : tie.Need-loop-holds Inv-loop μ-loop
 loop-holds c = search-start _ _
 
-mul-t7 : tie.Need-mul-t7 Inv-loop μ-loop
-mul-t7 c = omega arith
-
-shared-slice-read-t9 : tie.Need-shared-slice-read-t9 Inv-loop μ-loop
-shared-slice-read-t9 c = omega arith
-
-mul-t10 : tie.Need-mul-t10 Inv-loop μ-loop
-mul-t10 c = omega arith
-
-shared-slice-read-t12 : tie.Need-shared-slice-read-t12 Inv-loop μ-loop
-shared-slice-read-t12 c = omega arith
+window-at-requires : tie.Need-window-at-requires Inv-loop μ-loop
+window-at-requires c κs = omega arith
 
 is-bad-window-requires : tie.Need-is-bad-window-requires Inv-loop μ-loop
 is-bad-window-requires c κs = search needs
 
 returns : tie.Need-returns Inv-loop μ-loop
-returns c = search-found _ _ _ (c .before .before .before .before .before .loop .inv) (omega arith) (sym (c .before .is-bad-window .ensures) ∙ c .if1 .taken)
+returns c =
+    let test = sym (rw (c .before .before .window-at .ensures) at (c .before .is-bad-window .ensures)) in
+    search-found _ _ _ (c .before .before .before .before .loop .inv) (omega arith) (test ∙ c .if1 .taken)
 
 add-k : tie.Need-add-k Inv-loop μ-loop
 add-k c = omega arith
@@ -43,7 +36,9 @@ loop-less : tie.Need-loop-less Inv-loop μ-loop
 loop-less c = omega arith
 
 loop-again : tie.Need-loop-again Inv-loop μ-loop
-loop-again c = search-passed _ _ _ (c .before .before .before .before .before .loop .inv) (omega arith) (sym (c .before .is-bad-window .ensures) ∙ c .if1 .left)
+loop-again c =
+    let test = sym (rw (c .before .before .window-at .ensures) at (c .before .is-bad-window .ensures)) in
+    search-passed _ _ _ (c .before .before .before .before .loop .inv) (omega arith) (test ∙ c .if1 .left)
 
 returns-2 : tie.Need-returns-2 Inv-loop μ-loop
 returns-2 c = search-end _ _ _ (c .before .loop .inv) (omega arith)
@@ -55,10 +50,7 @@ first-bad-window-spec =
     Inv-loop
     μ-loop
     loop-holds
-    mul-t7
-    shared-slice-read-t9
-    mul-t10
-    shared-slice-read-t12
+    window-at-requires
     is-bad-window-requires
     returns
     add-k

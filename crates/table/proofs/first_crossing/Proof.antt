@@ -18,24 +18,17 @@ abbrev μ-loop : tie.MeasureT-loop
 loop-holds : tie.Need-loop-holds Inv-loop μ-loop
 loop-holds c = search-start _ _
 
-mul-t7 : tie.Need-mul-t7 Inv-loop μ-loop
-mul-t7 c = omega arith
-
-shared-slice-read-t9 : tie.Need-shared-slice-read-t9 Inv-loop μ-loop
-shared-slice-read-t9 c = omega arith
-
-mul-t10 : tie.Need-mul-t10 Inv-loop μ-loop
-mul-t10 c = omega arith
-
-shared-slice-read-t12 : tie.Need-shared-slice-read-t12 Inv-loop μ-loop
-shared-slice-read-t12 c = omega arith
+window-at-requires : tie.Need-window-at-requires Inv-loop μ-loop
+window-at-requires c κs = omega arith
 
 crosses-earlier-requires : tie.Need-crosses-earlier-requires Inv-loop μ-loop
 crosses-earlier-requires c κs = omega arith
 
 returns : tie.Need-returns Inv-loop μ-loop
 unfolding failsEarlier
-returns c = search-found _ _ _ (c .before .before .before .before .before .loop .inv) (omega arith) (sym (c .before .crosses-earlier .ensures) ∙ c .if1 .taken)
+returns c =
+    let test = sym (rw (c .before .before .window-at .ensures) at (c .before .crosses-earlier .ensures)) in
+    search-found _ _ _ (c .before .before .before .before .loop .inv) (omega arith) (test ∙ c .if1 .taken)
 
 add-k : tie.Need-add-k Inv-loop μ-loop
 add-k c = omega arith
@@ -45,7 +38,9 @@ loop-less c = omega arith
 
 loop-again : tie.Need-loop-again Inv-loop μ-loop
 unfolding failsEarlier
-loop-again c = search-passed _ _ _ (c .before .before .before .before .before .loop .inv) (omega arith) (sym (c .before .crosses-earlier .ensures) ∙ c .if1 .left)
+loop-again c =
+    let test = sym (rw (c .before .before .window-at .ensures) at (c .before .crosses-earlier .ensures)) in
+    search-passed _ _ _ (c .before .before .before .before .loop .inv) (omega arith) (test ∙ c .if1 .left)
 
 returns-2 : tie.Need-returns-2 Inv-loop μ-loop
 returns-2 c = search-end _ _ _ (c .before .loop .inv) (omega arith)
@@ -57,10 +52,7 @@ first-crossing-spec =
     Inv-loop
     μ-loop
     loop-holds
-    mul-t7
-    shared-slice-read-t9
-    mul-t10
-    shared-slice-read-t12
+    window-at-requires
     crosses-earlier-requires
     returns
     add-k

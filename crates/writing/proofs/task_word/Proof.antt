@@ -4,7 +4,6 @@ use mathlib.Core.List.{[], append-assoc, append-nil}
 use borrow.Author.Needs.{needs}
 use Rattle.bits.specs.Bits.{bitsOf}
 use Rattle.bits.specs.Rows.{rowBits}
-use Rattle.table.specs.Writing.{taskBits}
 use Rattle.writing.proofs.PutLaws.{word-more}
 use Rattle.writing.proofs.task_word.Statement.{statement}
 use Rattle.writing.proofs.task_word.Tie as tie
@@ -27,7 +26,7 @@ unfolding bitsOf
 first c = word-more 0 17 0 (c .before .args .task .release) _ [] refl (c .join .ensures)
 
 returns : tie.Need-returns
-unfolding taskBits rowBits
+unfolding rowBits
 returns c =
     let task = c .before .before .before .before .args .task in
     let second = word-more 17 17 _ (task .deadline) _ _ (first (c .before .before .before)) (c .before .before .join2 .ensures) in

@@ -1,4 +1,4 @@
--- `bits::Cursor::put` meets its contract: the bits that fill the cursor's byte, and then the rest from a byte on. Assumes nothing.
+-- `bits::Cursor::put` meets its contract: the bits that fill the cursor's byte, and then the rest from a byte on.
 use mathlib.Core.Path.{_≡_, refl, _∙_}
 use native.Mathlib.Omega.{arith}
 use borrow.Author.Needs.{needs}

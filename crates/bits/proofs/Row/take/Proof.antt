@@ -1,4 +1,4 @@
--- `bits::Row::take` meets its contract: the field is a part of the row's number. Assumes nothing.
+-- `bits::Row::take` meets its contract: the field is a part of the row's number.
 use Prim.Native.Nat.{_-_, _/_, _^_}
 use mathlib.Core.Path.{refl}
 use native.Mathlib.Nat.{mod-lt}

@@ -11,8 +11,8 @@ slice-aggregate-read-full c = search needs
 read-full-requires : tie.Need-read-full-requires
 read-full-requires c κs = search needs
 
-to-text-held-requires : tie.Need-to-text-held-requires
-to-text-held-requires c κs = search needs
+to-text-from-first-requires : tie.Need-to-text-from-first-requires
+to-text-from-first-requires c κs = search needs
 
 refused-requires : tie.Need-refused-requires
 refused-requires c κs = search needs
@@ -38,7 +38,7 @@ table-to-text-spec =
     (tie.spec
     slice-aggregate-read-full
     read-full-requires
-    to-text-held-requires
+    to-text-from-first-requires
     refused-requires
     returns
     array-share-prefix-text

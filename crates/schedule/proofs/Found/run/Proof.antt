@@ -1,7 +1,7 @@
 -- `schedule::Found::run` meets its contract: in each case the run, or the run of which every number is 0.
 use mathlib.Core.Path.{ap, sym}
 use borrow.Author.Needs.{needs}
-use Rattle.schedule.specs.Queries.{foundRun}
+use Rattle.schedule.specs.Queries.{runFound}
 use Rattle.schedule.proofs.Found.run.Statement.{statement}
 use Rattle.schedule.proofs.Found.run.Tie as tie
 
@@ -21,13 +21,13 @@ returns : tie.Need-returns
 returns c = search needs
 
 returns-2 : tie.Need-returns-2
-returns-2 c = ap foundRun (sym (c .enum-told .given .1))
+returns-2 c = ap runFound (sym (c .enum-told .given .1))
 
 returns-3 : tie.Need-returns-3
-returns-3 c = ap foundRun (sym (c .enum-told2 .given .1))
+returns-3 c = ap runFound (sym (c .enum-told2 .given .1))
 
 returns-4 : tie.Need-returns-4
-returns-4 c = ap foundRun (sym (c .before .self2 .given .1))
+returns-4 c = ap runFound (sym (c .before .self2 .given .1))
 
 pub run-spec : {M : Type 1} → statement M
 run-spec =

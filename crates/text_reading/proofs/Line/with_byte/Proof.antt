@@ -35,14 +35,14 @@ returns-2 c =
     simp (sym (c .before .before .before .before .is-digit .ensures) ∙ c .before .before .before .if1 .left, sym (c .before .before .is-blank .ensures) ∙ c .before .if2 .taken)
     (c .with-number .ensures)
 
-spoil-requires : tie.Need-spoil-requires
-spoil-requires c κs = search needs
+with-fault-requires : tie.Need-with-fault-requires
+with-fault-requires c κs = search needs
 
 returns-3 : tie.Need-returns-3
 unfolding withByte
 returns-3 c =
     simp (sym (c .before .before .before .before .is-digit .ensures) ∙ c .before .before .before .if1 .left, sym (c .before .before .is-blank .ensures) ∙ c .before .if2 .left)
-    (c .spoil .ensures)
+    (c .with-fault .ensures)
 
 pub with-byte-spec : {M : Type 1} → statement M
 with-byte-spec =
@@ -56,5 +56,5 @@ with-byte-spec =
     is-blank-requires
     with-number-requires
     returns-2
-    spoil-requires
+    with-fault-requires
     returns-3)

@@ -5,12 +5,12 @@ use Rattle.text_reading.specs.Scanning.{withDigit}
 use Rattle.text_reading.proofs.Line.with_digit.Statement.{statement}
 use Rattle.text_reading.proofs.Line.with_digit.Tie as tie
 
-spoil-requires : tie.Need-spoil-requires
-spoil-requires c κs = search needs
+with-fault-requires : tie.Need-with-fault-requires
+with-fault-requires c κs = search needs
 
 returns : tie.Need-returns
 unfolding withDigit
-returns c = simp (lt-ltb _ _ (c .before .if1 .taken)) (c .spoil .ensures)
+returns c = simp (lt-ltb _ _ (c .before .if1 .taken)) (c .with-fault .ensures)
 
 mul-line : tie.Need-mul-line
 mul-line c = search needs
@@ -23,4 +23,4 @@ unfolding withDigit
 returns-2 c = simp (le-ltb _ _ (c .before .if1 .left))
 
 pub with-digit-spec : {M : Type 1} → statement M
-with-digit-spec = tie.close (tie.spec spoil-requires returns mul-line add-line returns-2)
+with-digit-spec = tie.close (tie.spec with-fault-requires returns mul-line add-line returns-2)

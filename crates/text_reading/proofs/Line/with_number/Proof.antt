@@ -9,12 +9,12 @@ returns : tie.Need-returns
 unfolding withNumber
 returns c = simp (not-true (c .before .before .args .self .reading) (c .if1 .taken))
 
-spoil-requires : tie.Need-spoil-requires
-spoil-requires c κs = search needs
+with-fault-requires : tie.Need-with-fault-requires
+with-fault-requires c κs = search needs
 
 returns-2 : tie.Need-returns-2
 unfolding withNumber
-returns-2 c = simp (not-false (c .before .before .before .before .args .self .reading) (c .before .before .if1 .left), le-ltb _ _ (c .before .if2 .taken)) (c .spoil .ensures)
+returns-2 c = simp (not-false (c .before .before .before .before .args .self .reading) (c .before .before .if1 .left), le-ltb _ _ (c .before .if2 .taken)) (c .with-fault .ensures)
 
 add-line : tie.Need-add-line
 add-line c = search needs
@@ -30,4 +30,4 @@ unfolding withNumber
 returns-3 c = simp (not-false (c .before .before .before .args .self .reading) (c .before .if1 .left), lt-ltb _ _ (c .if2 .left))
 
 pub with-number-spec : {M : Type 1} → statement M
-with-number-spec = tie.close (tie.spec returns spoil-requires returns-2 add-line mul-line element-write-line returns-3)
+with-number-spec = tie.close (tie.spec returns with-fault-requires returns-2 add-line mul-line element-write-line returns-3)

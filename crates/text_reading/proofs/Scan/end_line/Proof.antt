@@ -7,11 +7,11 @@ use Rattle.text_reading.proofs.Scan.end_line.Tie as tie
 with-number-requires : tie.Need-with-number-requires
 with-number-requires c κs = search needs
 
-is-wrong-requires : tie.Need-is-wrong-requires
-is-wrong-requires c κs = search needs
+ends-wrong-requires : tie.Need-ends-wrong-requires
+ends-wrong-requires c κs = search needs
 
 returns : tie.Need-returns
-returns c = line-refused _ _ _ (c .before .before .with-number .ensures) (c .before .is-wrong .ensures) (c .if1 .taken)
+returns c = line-refused _ _ _ (c .before .before .with-number .ensures) (c .before .ends-wrong .ensures) (c .if1 .taken)
 
 with-line-requires : tie.Need-with-line-requires
 with-line-requires c κs = search needs
@@ -25,7 +25,7 @@ add-t10 c = search needs
 returns-2 : tie.Need-returns-2
 returns-2 c =
     let tested = c .before .before .before .before in
-    line-taken _ _ _ (tested .before .before .with-number .ensures) (tested .before .is-wrong .ensures) _ _ (c .before .before .with-line .ensures)
+    line-taken _ _ _ (tested .before .before .with-number .ensures) (tested .before .ends-wrong .ensures) _ _ (c .before .before .with-line .ensures)
     (c .before .new .ensures) (tested .if1 .left)
 
 pub end-line-spec : {M : Type 1} → statement M
@@ -33,7 +33,7 @@ end-line-spec =
     tie.close
     (tie.spec
     with-number-requires
-    is-wrong-requires
+    ends-wrong-requires
     returns
     with-line-requires
     new-requires

@@ -1,0 +1,38 @@
+-- `report::plan_file` meets its contract: the lists that it lends are long enough for every table.
+use native.Mathlib.Omega.{arith}
+use borrow.Author.Needs.{needs}
+use Rattle.report.proofs.FilePlanLaws.{plan-of-file}
+use Rattle.report.proofs.plan_file.Statement.{statement}
+use Rattle.report.proofs.plan_file.Tie as tie
+
+slice-aggregate-plan-counted : tie.Need-slice-aggregate-plan-counted
+slice-aggregate-plan-counted c = search needs
+
+slice-aggregate-plan-counted-2 : tie.Need-slice-aggregate-plan-counted-2
+slice-aggregate-plan-counted-2 c = search needs
+
+slice-aggregate-plan-counted-3 : tie.Need-slice-aggregate-plan-counted-3
+slice-aggregate-plan-counted-3 c = search needs
+
+slice-aggregate-plan-counted-4 : tie.Need-slice-aggregate-plan-counted-4
+slice-aggregate-plan-counted-4 c = search needs
+
+plan-counted-requires : tie.Need-plan-counted-requires
+plan-counted-requires c κs = search needs
+
+returns : tie.Need-returns
+returns c =
+    let call = c .before .before .before .before .before .plan-counted in
+    let clauses = call .ensures in
+    plan-of-file _ _ _ (record { reply-is = clauses .1 .0; lists-are = clauses .1 .1 }) (clauses .0) (omega (arith, call .kept))
+
+pub plan-file-spec : {M : Type 1} → statement M
+plan-file-spec =
+    tie.close
+    (tie.spec
+    slice-aggregate-plan-counted
+    slice-aggregate-plan-counted-2
+    slice-aggregate-plan-counted-3
+    slice-aggregate-plan-counted-4
+    plan-counted-requires
+    returns)

@@ -1,0 +1,21 @@
+-- Run lists that stand in three lent columns of one length, as contracts name them. In a `requires` the name of a lent column is what it holds when the
+-- function is called; in an `ensures` it is that and, beside it, what it holds when the function returns.
+use Prim.Native.Nat.{ℕ}
+use mathlib.Core.Path.{_≡_}
+use mathlib.Core.List.{List}
+use lib.ListN.{length}
+use denote.Ref.{RefT, now}
+use Rattle.base.specs.Lent.{ListParameter}
+use Rattle.schedule.specs.declared.Run.{Run}
+use Rattle.schedule.specs.Runs.{runsOf}
+
+-- the three columns have one length
+abbrev pub OneLength : RefT (List ℕ) → RefT (List ℕ) → RefT (List ℕ) → Type 0
+OneLength starts ends tasks = (length (now starts) ≡ length (now ends)) × (length (now starts) ≡ length (now tasks))
+
+-- the run list that they are: for a `requires`, and for an `ensures`, where it is the one before the call
+abbrev pub runsLent : RefT (List ℕ) → RefT (List ℕ) → RefT (List ℕ) → List Run
+runsLent starts ends tasks = runsOf (now starts) (now ends) (now tasks)
+
+abbrev pub runsBefore : ListParameter → ListParameter → ListParameter → List Run
+runsBefore starts ends tasks = runsLent (starts .entry) (ends .entry) (tasks .entry)
