@@ -5,7 +5,7 @@ use mathlib.Core.List.{[], _∷_}
 use mathlib.Core.Bool.{true, false}
 use Rattle.base.specs.Members.{All}
 use Rattle.choice.specs.Choice.{total, worksFit, worksOf, keepLists, keptWorth, lexLess, discardedWorth, choiceKey, better, best, bestList, chosenOver, counted, countOne}
-use Rattle.choice.specs.Programme.{mandatorySum, allWorth, ifRoom, keeping, row, greatest, backtrack, byRows}
+use Rattle.choice.specs.Programme.{ifRoom, keeping, row, greatest, backtrack, byRows}
 use Rattle.choice.specs.ChoiceSamples.{p8Jobs, choiceSamples, SampleHolds}
 
 -- The choice gives the marks of every sample.
@@ -15,7 +15,7 @@ choice-samples = (refl, (refl, (refl, (refl, (refl, tt)))))
 
 -- So do the rows.
 pub row-samples : All (λ sample. byRows countOne 1000 (sample .jobs) ≡ sample .marks) choiceSamples
-unfolding mandatorySum allWorth ifRoom keeping row greatest backtrack byRows
+unfolding total ifRoom keeping row greatest backtrack byRows
 row-samples = (refl, (refl, (refl, (refl, (refl, tt)))))
 
 -- P8 with its parts worth 1, 2, 3 and 3, 2, 1: other lists are chosen.

@@ -1,17 +1,17 @@
 -- For proofs alone: the choice of optional parts by dynamic programming: one row of numbers a job, from the innermost job outwards, and the marks read back
 -- from the outermost inwards. Jobs stand outermost first. What the code holds of it is said in Decisions.
 use Prim.Native.Nat.{ℕ, zero, suc, _+_, _-_, min}
-use mathlib.Core.List.{List, [], _∷_}
+use mathlib.Core.List.{List, [], _∷_, map}
 use mathlib.Core.Bool.{Bool, true, false}
 use lib.Dec.{leb, ltb, eqb}
 use Rattle.base.specs.Tests.{pick}
 use Rattle.schedule.specs.declared.Job.{Job}
 use Rattle.schedule.specs.Jobs.{windowTicks}
+use Rattle.choice.specs.Choice.{total}
 
 -- the mandatory ticks of all jobs
-unfoldable pub mandatorySum : List Job → ℕ
-mandatorySum [] = 0
-mandatorySum (job ∷ jobs) = job .mandatory + mandatorySum jobs
+abbrev pub mandatorySum : List Job → ℕ
+mandatorySum jobs = total (map (λ job. job .mandatory) jobs)
 
 -- the ticks of the outermost window: no list that fits keeps more
 abbrev pub outermostTicks : List Job → ℕ
@@ -19,9 +19,8 @@ outermostTicks [] = 0
 outermostTicks (job ∷ jobs) = windowTicks job
 
 -- the worth of all optional parts
-unfoldable pub allWorth : (Job → ℕ) → List Job → ℕ
-allWorth worth [] = 0
-allWorth worth (job ∷ jobs) = worth job + allWorth worth jobs
+abbrev pub allWorth : (Job → ℕ) → List Job → ℕ
+allWorth worth jobs = total (map worth jobs)
 
 -- the greatest number up to n at which a row is below a limit, and 0 where there is none
 unfoldable pub greatest : ℕ → (ℕ → ℕ) → ℕ → ℕ

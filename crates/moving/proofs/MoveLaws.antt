@@ -2,20 +2,20 @@
 use Prim.Native.Nat.{ℕ, _≤_, _<_}
 use mathlib.Core.Path.{_≡_, ap, _∙_}
 use mathlib.Core.Bool.{false}
-use mathlib.Core.List.{List, _++_}
+use mathlib.Core.List.{List}
 use native.Mathlib.Omega.{arith}
 use lib.Dec.{eqb}
 use lib.IntN.{ℤ}
-use lib.ListN.{length, drop}
+use lib.ListN.{length}
 use borrow.Author.Tests.{lt-ltb, le-ltb}
 use Rattle.base.specs.Limits.{maxTasks}
+use Rattle.base.specs.Lent.{writtenFront}
 use Rattle.base.proofs.LowestLaws.{before, lowest-bound}
 use Rattle.table.specs.declared.Task.{Task}
 use Rattle.table.specs.declared.Table.{Table}
 use Rattle.table.specs.declared.Written.{Written}
 use Rattle.table.specs.declared.Answer.the-variants.{Accepted}
 use Rattle.table.specs.Tables.{noTask, taskAt, tableOf}
-use Rattle.table.specs.Layout.{fileLength}
 use Rattle.table.specs.Answers.{numberOf, placeOf, isAccepted, declined, wrote}
 use Rattle.table.specs.Reading.{tableIn, readAnswer}
 use Rattle.table.specs.Writing.{fileOf}
@@ -67,7 +67,7 @@ inside-all shift t l = omega (arith, lowest-bound (λ k. movedOutside shift (tas
 
 -- an acceptance leaves the file of the moved table, and beyond it what stood there
 pub accepted-leaves : (s : List ℕ) (shift : ℤ) (out after : List ℕ) (u : Table) → wrote (length s) ≡ moveReply s shift (length out)
-    → u ≡ movedTable shift (tableIn s) → after ≡ fileOf u ++ drop (fileLength (u .count)) out → after ≡ movedOver s shift out
+    → u ≡ movedTable shift (tableIn s) → after ≡ writtenFront (fileOf u) out → after ≡ movedOver s shift out
 unfolding movedOver
 accepted-leaves s shift out after u e m a =
-    content.accepted-leaves _ (movedTable shift (tableIn s)) _ out after e (a ∙ ap (λ (t : Table). fileOf t ++ drop (fileLength (t .count)) out) m)
+    content.accepted-leaves _ (fileOf (movedTable shift (tableIn s))) _ out after e (a ∙ ap (λ (t : Table). writtenFront (fileOf t) out) m)

@@ -8,8 +8,8 @@ use lib.ListN.{length, length-append}
 use Rattle.schedule.specs.declared.Job.{Job}
 use Rattle.schedule.specs.declared.Run.{Run}
 use Rattle.placement.specs.declared.Span.{Span}
-use Rattle.placement.specs.GapFilling.{addRun, fill}
-use Rattle.placement.specs.HeldRuns.{runsDown, Closed, bottomOf, runBelow, RunInserted, Held, jobFilled, FilledAbove}
+use Rattle.placement.specs.GapFilling.{runBelow, addRun, fill}
+use Rattle.placement.specs.HeldRuns.{runsDown, Closed, bottomOf, RunInserted, Held, jobFilled, FilledAbove}
 use Rattle.placement.proofs.GapLaws.{add-some, add-none, fill-length, fill-last, closed-joined, Above, above-start, above-next, above-done, above-closed, above-all}
 use Rattle.placement.proofs.HeldLaws.{runs-length, runs-none, runs-same, runs-split, runs-highest, runs-lowest, runs-bottom, runs-inserted}
 

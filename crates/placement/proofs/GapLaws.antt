@@ -5,12 +5,12 @@ use mathlib.Core.List.{List, [], _∷_, _++_, append-assoc, append-nil}
 use native.Mathlib.Omega.{arith}
 use lib.ListN.{length}
 use Rattle.schedule.specs.declared.Run.{Run}
-use Rattle.placement.specs.GapFilling.{addRun, fill}
+use Rattle.placement.specs.GapFilling.{runBelow, addRun, fill}
 use Rattle.placement.specs.HeldRuns.{Closed, bottomOf}
 use Rattle.placement.proofs.RunCount.{fill-none}
 
 -- a gap that gets ticks has one run more
-pub add-some : (i top n : ℕ) (rest : List Run) → 0 < n → addRun i top n rest ≡ record { start = top - n; end = top; task = i } ∷ rest
+pub add-some : (i top n : ℕ) (rest : List Run) → 0 < n → addRun i top n rest ≡ runBelow i top n ∷ rest
 add-some i top zero rest l = absurd (omega arith)
 add-some i top (suc n) rest l = refl
 

@@ -9,7 +9,8 @@ use lib.Seq.{getD-set-same, getD-set-other}
 use Rattle.columns.specs.Columns.{insertedAt}
 use Rattle.columns.proofs.ColumnLaws.{inserted-below, inserted-here, inserted-above}
 use Rattle.schedule.specs.Runs.{runAtIndex}
-use Rattle.placement.specs.HeldRuns.{runBelow, RunInserted}
+use Rattle.placement.specs.GapFilling.{runBelow}
+use Rattle.placement.specs.HeldRuns.{RunInserted}
 
 module _ (starts ends tasks : List ℕ) (at i top n : ℕ) where
   -- where each number of a run is put into its column at one place, the run is put in there

@@ -7,10 +7,14 @@ use Rattle.schedule.specs.declared.Job.{Job}
 use Rattle.schedule.specs.declared.Run.{Run}
 use Rattle.choice.specs.Choice.{worksOf}
 
+-- the run of task i that has the last n ticks below `top`
+abbrev pub runBelow : ℕ → ℕ → ℕ → Run
+runBelow i top n = record { start = top - n; end = top; task = i }
+
 -- one more run of task i, of n ticks that end at `top`; no run where n is 0
 abbrev pub addRun : ℕ → ℕ → ℕ → List Run → List Run
 addRun i top zero runs = runs
-addRun i top (suc n) runs = record { start = top - suc n; end = top; task = i } ∷ runs
+addRun i top (suc n) runs = runBelow i top (suc n) ∷ runs
 
 -- task i takes the last w free ticks from `release` to `top`, gap by gap downwards: what a gap holds, up to w, and below the gap's run the rest
 unfoldable pub fill : ℕ → ℕ → List Run → ℕ → ℕ → List Run

@@ -32,10 +32,6 @@ unfoldable pub bottomOf : ℕ → List Run → ℕ
 bottomOf top [] = top
 bottomOf top (run ∷ runs) = bottomOf (run .start) runs
 
--- the run of task i that has the last n ticks below `top`
-abbrev pub runBelow : ℕ → ℕ → ℕ → Run
-runBelow i top n = record { start = top - n; end = top; task = i }
-
 -- a run was put in at place `at`: what stood from there to `end`, excluded, stands one place higher
 pub record RunInserted (at end : ℕ) (run : Run) (old new : ℕ → Run) : Type 0 where
   pub below : (j : ℕ) → j < at → new j ≡ old j

@@ -2,11 +2,12 @@
 // in the lent lists.
 ghost use mathlib.Core.Path.{_≡_};
 ghost use mathlib.Core.Bool.{true, false};
-ghost use mathlib.Core.List.{_++_, reverse};
+ghost use mathlib.Core.List.{reverse};
 ghost use Prim.Native.Nat.{ℕ, _≤_, _<_};
-ghost use lib.ListN.{length, getD, drop};
+ghost use lib.ListN.{length, getD};
 ghost use Rattle.base.specs.Limits.{maxTasks};
 ghost use Rattle.base.specs.Places.{places};
+ghost use Rattle.base.specs.Lent.{writtenFront};
 ghost use Rattle.table.specs.Answers.{numberOf, placeOf};
 ghost use Rattle.table.specs.Kinds.{isNested};
 ghost use Rattle.table.specs.Reading.{tableIn, readReply};
@@ -105,7 +106,7 @@ fn put_marks(jobs: [Job; MAX_TASKS], keeps: [bool; MAX_TASKS], count: usize, mar
     requires { ⌜ Distinct (positions (jobsIn jobs count)) ⌝ }
     requires { ⌜ ((k : ℕ) → k < count → Any (λ job. job .position ≡ k) (jobsIn jobs count)) ⌝ }
     ensures { λ _. ⌜ now (marks .exit)
-        ≡ places (markAt (jobsIn jobs count) (keepsIn keeps count)) count ++ drop count (now (marks .entry)) ⌝ }
+        ≡ writtenFront (places (markAt (jobsIn jobs count) (keepsIn keeps count)) count) (now (marks .entry)) ⌝ }
 {
     let mut i: usize = 0;
     while i < count {

@@ -2,9 +2,9 @@
 use Prim.Native.Nat.{ℕ, _-_, _*_, _≤_, _<_}
 use mathlib.Core.Path.{_≡_, refl, sym, ap, _∙_}
 use mathlib.Core.Bool.{Bool, true, false}
-use mathlib.Core.List.{List, _++_, map}
+use mathlib.Core.List.{List, map}
 use lib.Dec.{ltb}
-use lib.ListN.{length, getD, drop}
+use lib.ListN.{length, getD}
 use borrow.Author.Tests.{le-ltb, ltb-false, not-false}
 use Rattle.base.specs.Limits.{maxLaunch}
 use Rattle.base.specs.Tests.{or}
@@ -14,7 +14,6 @@ use Rattle.base.specs.Lent.{writtenFront}
 use Rattle.base.specs.Members.{All}
 use Rattle.base.proofs.TestLaws.{or-left, or-right}
 use Rattle.base.proofs.MemberLaws.{all-places}
-use Rattle.base.proofs.PlaceLaws.{places-length}
 use Rattle.table.specs.declared.Table.{Table}
 use Rattle.table.specs.Kinds.{isNested}
 use Rattle.table.specs.Writing.{Legal}
@@ -89,9 +88,10 @@ module _ (nested : Bool) (jobs : List Job) (n : ℕ) (held : HeldJobs nested job
 
     -- the marks put
     pub array-marks : (lent : List ℕ)
-        → places (markAt (firstPlaces noJob jobs n) (firstPlaces false keeps n)) n ++ drop n lent ≡ writtenFront (marksBy nested n (firstPlaces noJob jobs n)) lent
+        → writtenFront (places (markAt (firstPlaces noJob jobs n) (firstPlaces false keeps n)) n) lent
+        ≡ writtenFront (marksBy nested n (firstPlaces noJob jobs n)) lent
     unfolding marksBy
-    array-marks lent = rw (list, places-length (markAt (firstPlaces noJob jobs n) (chosenBy nested (firstPlaces noJob jobs n))) n) refl
+    array-marks lent = ap (λ (list : List Bool). writtenFront (places (markAt (firstPlaces noJob jobs n) list) n) lent) list
 
     -- a column of the runs put
     pub array-column : (part : Run → ℕ) (lent : List ℕ)

@@ -2,12 +2,13 @@
 use Prim.Native.Nat.{ℕ, _≤_, _<_}
 use mathlib.Core.Path.{_≡_, refl, sym, ap, _∙_}
 use mathlib.Core.Bool.{Bool, true, false}
-use mathlib.Core.List.{List, [], _∷_, _++_, map}
+use mathlib.Core.List.{List, [], _∷_, map}
 use native.Mathlib.Omega.{arith}
 use lib.Dec.{eqb}
-use lib.ListN.{length, getD, drop, length-map}
+use lib.ListN.{length, getD, length-map}
 use Rattle.base.specs.Tests.{pick, and}
 use Rattle.base.specs.Places.{places}
+use Rattle.base.specs.Lent.{writtenFront}
 use Rattle.table.specs.declared.Table.{Table}
 use Rattle.schedule.specs.declared.Job.{Job}
 use Rattle.schedule.specs.Jobs.{jobAt, counts}
@@ -15,11 +16,12 @@ use Rattle.schedule.specs.Ticks.{oneIf}
 use Rattle.base.specs.Members.{All}
 use Rattle.base.specs.Arrays.{Distinct}
 use Rattle.schedule.proofs.JudgeLaws.{job-position}
-use Rattle.choice.specs.Choice.{keptWorth, kept}
+use Rattle.choice.specs.Choice.{total, keptWorth, kept}
 use Rattle.placement.specs.Chains.{positions}
 use Rattle.placement.specs.ByPosition.{numberAt}
 use Rattle.placement.proofs.PlanLaws.{SameNumbers, SameMarks}
 use Rattle.base.proofs.ListLaws.{map-places}
+use Rattle.base.proofs.PlaceLaws.{places-length}
 use Rattle.placement.proofs.PositionLaws.{numbers-same, Put, put-end}
 use Rattle.orders.proofs.SortLaws.{sumOver}
 use Rattle.plans.specs.Planning.{markAt}
@@ -59,7 +61,7 @@ kept-one false false = refl
 -- The kept count of a keep list is the sum over its positions by the marks.
 pub kept-marks : (launch : ℕ) (t : Table) (marks js : List ℕ) (keeps : List Bool) → SameMarks (map (jobAt launch t) js) keeps marks
     → kept (map (jobAt launch t) js) keeps ≡ sumOver (λ k. oneIf (and (counts (jobAt launch t k)) (eqb (getD marks k 0) 1))) js
-unfolding keptWorth sumOver
+unfolding keptWorth total
 kept-marks launch t marks [] keeps s = refl
 kept-marks launch t marks (j ∷ js) [] s = absurd s
 kept-marks launch t marks (j ∷ js) (keep ∷ keeps) s =
@@ -68,6 +70,6 @@ kept-marks launch t marks (j ∷ js) (keep ∷ keeps) s =
 
 -- Marks that were put into a lent list one job after another, as numbers: at the end every position holds its mark.
 pub marked-end : (at : ℕ → Job) (keep : ℕ → Bool) (n : ℕ) (lent : List ℕ) (i : ℕ) (marks : List ℕ) → n ≤ i → n ≤ length lent
-    → Put at (λ k. oneIf (keep k)) n lent i marks → marks ≡ places (markAt (places at n) (places keep n)) n ++ drop n lent
+    → Put at (λ k. oneIf (keep k)) n lent i marks → marks ≡ writtenFront (places (markAt (places at n) (places keep n)) n) lent
 unfolding places
-marked-end at keep n lent i marks l room f = rw (map-places oneIf keep 0 n) (put-end at (λ k. oneIf (keep k)) n lent i marks l room f)
+marked-end at keep n lent i marks l room f = rw (places-length (markAt (places at n) (places keep n)) n, map-places oneIf keep 0 n) (put-end at (λ k. oneIf (keep k)) n lent i marks l room f)

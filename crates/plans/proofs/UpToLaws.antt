@@ -48,7 +48,7 @@ module _ (launch : ℕ) (t : Table) (ticks : ℕ → ℕ) where
 
   -- up to the last they are all
   pub up-first : (k : ℕ) (js : List ℕ) → All (λ j. kindBefore t j k ≡ true) js → listUpTo (k ∷ js) k ≡ ticks k + sumOver ticks js
-  unfolding listUpTo sumOver
+  unfolding listUpTo total
   up-first k js h = rw (upTo-self t k) (ap (λ (x : ℕ). ticks k + x) (whole js h))
     where
       whole : (js : List ℕ) → All (λ j. kindBefore t j k ≡ true) js → sumOver (λ j. pick (upTo t j k) (ticks j) 0) js ≡ sumOver ticks js
@@ -57,14 +57,8 @@ module _ (launch : ℕ) (t : Table) (ticks : ℕ → ℕ) where
 
   -- up to another the last adds nothing
   pub up-rest : (k i : ℕ) (js : List ℕ) → kindBefore t i k ≡ true → listUpTo (k ∷ js) i ≡ listUpTo js i
-  unfolding listUpTo sumOver
+  unfolding listUpTo total
   up-rest k i js e = rw (upTo-after t k i e) (omega arith)
-
-  -- the sum of the list of them
-  pub list-total : (js : List ℕ) → total (map ticks js) ≡ sumOver ticks js
-  unfolding total sumOver
-  list-total [] = refl
-  list-total (j ∷ js) = ap (λ (x : ℕ). ticks j + x) (list-total js)
 
   -- works of positions that stand last first fit exactly where each window has the ticks for those up to its task
   pub list-within : (js : List ℕ) → Sorted (kindBefore t) js
@@ -73,7 +67,6 @@ module _ (launch : ℕ) (t : Table) (ticks : ℕ → ℕ) where
   list-within [] s = (λ e. tt, λ h. refl)
   list-within (k ∷ js) s =
       let first : listUpTo (k ∷ js) k ≡ ticks k + sumOver ticks js = up-first k js (s .0) in
-      let sum = list-total js in
       let rest = list-within js (s .1) in
       let inner = all-members (λ i. kindBefore t i k ≡ true) js .0 (s .0) in
       let short = all-members (λ i. listUpTo js i ≤ windowTicks (jobAt launch t i)) js in

@@ -1,6 +1,6 @@
 -- Reading of a table of any kind: what it refuses, reading refuses; and what it tells of the table where it refuses nothing.
 use Prim.Native.Nat.{ℕ, _≤_, _<_}
-use mathlib.Core.Path.{_≡_, refl, sym, _∙_}
+use mathlib.Core.Path.{_≡_, refl, sym, ap, _∙_}
 use mathlib.Core.Logic.{inl, inr, ⊎-elim}
 use mathlib.Core.Bool.{Bool, true, false}
 use mathlib.Core.List.{List}
@@ -10,7 +10,8 @@ use Rattle.base.specs.Tests.{or}
 use Rattle.base.proofs.TestLaws.{cases, both-absurd, or-left, or-right, or-second}
 use Rattle.bits.proofs.RowLaws.{fields-fit}
 use Rattle.table.specs.declared.Answer.the-variants.{Accepted, Window}
-use Rattle.table.specs.Tables.{taskAt, tableOf}
+use Rattle.table.specs.declared.Reading.{Reading}
+use Rattle.table.specs.Tables.{taskAt, noTable, tableOf}
 use Rattle.table.specs.Layout.{taskWidths, taskStart}
 use Rattle.table.specs.Answers.{isAccepted}
 use Rattle.table.specs.Windows.{badWindow}
@@ -20,18 +21,37 @@ use Rattle.table.proofs.AnswerLaws.{accepted-is, firstRefusal-known, refused-no
 use Rattle.table.proofs.KindLaws.{window-known, window-test}
 use Rattle.table.proofs.RoundTrip.{read-test}
 use Rattle.table.proofs.TableLaws.{taskAt-below}
-use Rattle.reading.specs.AnyKind.{anyKindAnswer}
+use Rattle.reading.specs.AnyKind.{anyKindAnswer, anyKindReply}
 use Rattle.reading.proofs.ReadLaws.{head-few, head-accepted}
 
 -- What it answers: a header that is refused gives the answer,
-pub any-kind-head : (s : List ℕ) → isAccepted (headAnswer s) ≡ false → headAnswer s ≡ anyKindAnswer s
+any-kind-head : (s : List ℕ) → isAccepted (headAnswer s) ≡ false → headAnswer s ≡ anyKindAnswer s
 unfolding anyKindAnswer
 any-kind-head s e = rw e
 
 -- and past it the windows that are bad do.
-pub any-kind-windows : (s : List ℕ) → headAnswer s ≡ Accepted → badWindowAnswer (taskAt (tableIn s)) (tableIn s .count) ≡ anyKindAnswer s
+any-kind-windows : (s : List ℕ) → headAnswer s ≡ Accepted → badWindowAnswer (taskAt (tableIn s)) (tableIn s .count) ≡ anyKindAnswer s
 unfolding anyKindAnswer
 any-kind-windows s e = rw e
+
+-- So its reply on either is known by its answer and its table.
+pub reply-head : (r : Reading) (s : List ℕ) → isAccepted (headAnswer s) ≡ false → r .answer ≡ headAnswer s → r .table ≡ noTable → r ≡ anyKindReply s
+unfolding anyKindReply
+reply-head r s e a t =
+    let table : r .table ≡ anyKindReply s .table = rw e t in
+    λ i. record { answer = (a ∙ any-kind-head s e) i; table = table i }
+
+pub reply-windows : (r : Reading) (s : List ℕ) → headAnswer s ≡ Accepted → r .answer ≡ badWindowAnswer (taskAt (tableIn s)) (tableIn s .count)
+    → r .table ≡ tableIn s → r ≡ anyKindReply s
+unfolding anyKindReply
+reply-windows r s e a t =
+    let table : r .table ≡ anyKindReply s .table = rw e t in
+    λ i. record { answer = (a ∙ any-kind-windows s e) i; table = table i }
+
+-- The answer of its reply.
+pub any-kind-answer : (r : Reading) (s : List ℕ) → r ≡ anyKindReply s → r .answer ≡ anyKindAnswer s
+unfolding anyKindReply
+any-kind-answer r s e = ap (λ (r : Reading). r .answer) e
 
 -- What it refuses, reading refuses.
 pub any-kind-refused : (s : List ℕ) → isAccepted (anyKindAnswer s) ≡ false → anyKindAnswer s ≡ readAnswer s
@@ -43,6 +63,13 @@ any-kind-refused s =
 any-kind-known : (s : List ℕ) → anyKindAnswer s ≡ Accepted → (headAnswer s ≡ Accepted) × (badWindowAnswer (taskAt (tableIn s)) (tableIn s .count) ≡ Accepted)
 unfolding anyKindAnswer
 any-kind-known s e = firstRefusal-known (headAnswer s) (badWindowAnswer (taskAt (tableIn s)) (tableIn s .count)) e
+
+-- Then the table of its reply is that of the file.
+pub any-kind-in : (r : Reading) (s : List ℕ) → r ≡ anyKindReply s → r .answer ≡ Accepted → (anyKindAnswer s ≡ Accepted) × (r .table ≡ tableIn s)
+unfolding anyKindReply
+any-kind-in r s e a =
+    let answer : anyKindAnswer s ≡ Accepted = sym (any-kind-answer r s e) ∙ a in
+    (answer, ap (λ (r : Reading). r .table) e ∙ rw (any-kind-known s answer .0))
 
 -- the deadline frame of a task of a file is one that a table can name
 deadline-named : (s : List ℕ) (start : ℕ) → taskFrom s start .deadline ≤ lastFrame

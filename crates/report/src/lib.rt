@@ -8,7 +8,7 @@ ghost use Rattle.lines.specs.Putting.{Put};
 ghost use Rattle.lines.specs.Text.{line};
 ghost use Rattle.printed_plan.specs.Printing.{dropWord, dropLines, runWord, runLines, planLines, refusalText, printed, PrintsWithin};
 ghost use Rattle.printed_plan.specs.ProgramInput.{numberBytes, numberIn, inputBytes, planFront, planOutput, PrintsFromFirst};
-ghost use Rattle.report.specs.FilePlans.{PlanOfFile};
+ghost use Rattle.report.specs.FilePlans.{filePlan};
 use base::MAX_PLAN_RUNS;
 use base::MAX_TASKS;
 use lines::MAX_FIELD;
@@ -111,7 +111,7 @@ pub struct FilePlan {
 
 // Plans a file at a launch tick: the printed plan and what runs now are made of it.
 pub fn plan_file(file: &[u8], launch: u32) -> FilePlan
-    ensures { λ r. ⌜ PlanOfFile launch (now (file .entry)) r ⌝ }
+    ensures { λ r. ⌜ r ≡ filePlan launch (now (file .entry)) ⌝ }
 {
     let mut marks = [0u8; MAX_TASKS];
     let mut starts = [0u32; MAX_PLAN_RUNS];

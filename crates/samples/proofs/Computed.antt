@@ -24,6 +24,7 @@ use Rattle.table.specs.Kinds.{
 use Rattle.table.specs.Reading.{countIn, pIn, qIn, taskFrom, taskIn, tableIn, paddingSet, frontAnswer, headAnswer, readAnswer, readReply}
 use Rattle.table.specs.Writing.{headBits, rowsFile, fileOf, tooWide, firstTooWide, rowsReply, writeReply, writtenOver}
 use Rattle.table.specs.Moving.{movedTask, movedOutside, firstOutside, movedTable, moveReply, movedOver}
+use Rattle.table.specs.TableSamples.{p8File}
 use Rattle.schedule.specs.Jobs.{jobOf, jobAt}
 use Rattle.schedule.specs.Ticks.{sumBelow}
 use Rattle.schedule.specs.Runs.{tooMany, runAtIndex, runsOf, everyRun, sumRuns}
@@ -76,7 +77,7 @@ use Rattle.printed_plan.specs.Printing.{
 }
 use Rattle.printed_plan.specs.NowText.{foundLine, nowLines, nowText}
 use Rattle.printed_plan.specs.ProgramInput.{numberIn, outputOf}
-use Rattle.samples.specs.Samples.{p8File, computedSamples}
+use Rattle.samples.specs.Samples.{computedSamples}
 use Rattle.samples.specs.Refusals.{computedRows}
 use Rattle.samples.specs.SampleTests.{allPass, numbersEqual, runsEqual, tasksEqual, tablesEqual, listsEqual, fileMet, kindMet, planMet, sampleMet, callMet}
 

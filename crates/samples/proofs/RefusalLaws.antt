@@ -19,11 +19,11 @@ use Rattle.table.specs.declared.Reading.{Reading}
 use Rattle.table.specs.Tables.{tableOf}
 use Rattle.table.specs.Answers.{numberOf, placeOf}
 use Rattle.table.specs.Reading.{tableIn, readReply}
-use Rattle.table.specs.Kinds.{isNested}
 use Rattle.table.specs.Writing.{fileOf, writeReply}
 use Rattle.table.proofs.TableLaws.{tableOf-canonical}
 use Rattle.table.proofs.FileLaws.{accepted-legal}
 use Rattle.table.proofs.RoundTrip.{written-read}
+use Rattle.table.specs.TableSamples.{task, p8Table, p8File}
 use Rattle.schedule.specs.declared.RunsAnswer.the-variants as checked
 use Rattle.schedule.specs.Runs.{tooMany, everyRun, sumRuns}
 use Rattle.schedule.specs.Judging.{noneEmpty, followFrom, eachFollows}
@@ -57,10 +57,10 @@ use Rattle.samples.specs.Refusals.{
   largeRows,
   refusals,
 }
-use Rattle.samples.specs.Inputs.{task, bytesWritten, countedTicks}
+use Rattle.samples.specs.Inputs.{bytesWritten, countedTicks}
 use Rattle.samples.specs.SampleTests.{numbersEqual, runsEqual, tablesEqual, listsEqual, planParts, callMet}
 use Rattle.samples.proofs.SameLaws.{pass-all, both, three, numbers-same, runs-same, table-same, lists-same, planned-same, written-same, judged-same, busy-same}
-use Rattle.samples.specs.Samples.{p8Table, p8File, p8Marks, p8Runs}
+use Rattle.samples.specs.Samples.{p8Marks, p8Runs}
 use Rattle.samples.proofs.Computed.{all-pass}
 use Rattle.samples.proofs.LaunchSamples.{planned-later, lists-written}
 use Rattle.samples.proofs.SampleLaws.{p8-at-0}

@@ -20,6 +20,7 @@ use Rattle.table.specs.Kinds.{nestingAnswer}
 use Rattle.table.specs.Reading.{tableIn}
 use Rattle.table.specs.Writing.{fileOf}
 use Rattle.table.specs.Moving.{moveReply}
+use Rattle.table.specs.TableSamples.{p8Table, p8File}
 use Rattle.schedule.specs.declared.Run.{Run}
 use Rattle.schedule.specs.Jobs.{jobAt}
 use Rattle.plans.specs.Planning.{listsFor, planReply, planMarks, planRuns}
@@ -38,8 +39,6 @@ use Rattle.samples.specs.Samples.{
   nesting,
   planned,
   atNoon,
-  p8Table,
-  p8File,
   p8Marks,
   p8Runs,
   p8NoonRuns,

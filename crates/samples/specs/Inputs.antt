@@ -1,25 +1,14 @@
--- How the samples write what is given and what is expected: tasks, tables, runs, lists and replies, each by its plain numbers. None of the definitions that the
--- samples are about is used here, so a reply that is expected says what it says whatever they are.
-use Prim.Native.Nat.{ℕ, _-_}
+-- How the samples write what is given and what is expected: runs, lists and replies, each by its plain numbers, as TableSamples of table does with tasks and
+-- tables. None of the definitions that the samples are about is used here, so a reply that is expected says what it says whatever they are.
+use Prim.Native.Nat.{ℕ}
 use mathlib.Core.Bool.{true, false}
-use mathlib.Core.List.{List, _++_}
-use lib.ListN.{length, replicate}
-use Rattle.table.specs.declared.Task.{Task}
-use Rattle.table.specs.declared.Table.{Table}
+use mathlib.Core.List.{List}
 use Rattle.table.specs.declared.Written.{Written}
 use Rattle.schedule.specs.declared.Run.{Run}
 use Rattle.schedule.specs.declared.Judged.{Judged}
 use Rattle.schedule.specs.declared.Busy.{Busy}
 use Rattle.plans.specs.declared.Planned.{Planned}
 use Rattle.plans.specs.Planning.{LentLists}
-
--- a task: release frame, deadline frame, mandatory ticks, optional ticks
-abbrev pub task : ℕ → ℕ → ℕ → ℕ → Task
-task release deadline mandatory optional = record { release = release; deadline = deadline; mandatory = mandatory; optional = optional }
-
--- the table of period p/q with these tasks, by position: of its 64 places those beyond them are 0
-abbrev pub table : ℕ → ℕ → List Task → Table
-table p q tasks = record { count = length tasks; p = p; q = q; tasks = tasks ++ replicate (64 - length tasks) (task 0 0 0 0) }
 
 -- a run by its start, its end and its task
 abbrev pub run : ℕ → ℕ → ℕ → Run

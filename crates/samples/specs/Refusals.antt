@@ -15,6 +15,7 @@ use Rattle.table.specs.Layout.{maxFile, fileBytesRead}
 use Rattle.table.specs.Reading.{tableIn, readReply}
 use Rattle.table.specs.Writing.{fileOf, writeReply, writtenOver}
 use Rattle.table.specs.Moving.{moveReply, movedOver}
+use Rattle.table.specs.TableSamples.{task, table, p4File, p8File}
 use Rattle.schedule.specs.declared.Judged.{Judged}
 use Rattle.schedule.specs.declared.Busy.{Busy}
 use Rattle.schedule.specs.declared.Run.{Run}
@@ -29,8 +30,6 @@ use Rattle.plans.specs.Planning.{LentLists, listsFor, planReply, listsAfter}
 use Rattle.printed_plan.specs.Printing.{maxLine, maxText, PrintsWithin}
 use Rattle.printed_plan.specs.ProgramInput.{inputBytes, planFront, planOutput, nowFront, nowOutput}
 use Rattle.samples.specs.Inputs.{
-  task,
-  table,
   run,
   listsOf,
   notWritten,
@@ -43,7 +42,7 @@ use Rattle.samples.specs.Inputs.{
   notCounted,
   countedTicks,
 }
-use Rattle.samples.specs.Samples.{p4File, p8File, p8Marks, p8Runs, neitherTable, tieFile, lateFile, emptyFile, atZero}
+use Rattle.samples.specs.Samples.{p8Marks, p8Runs, neitherTable, tieFile, lateFile, emptyFile, atZero}
 
 -- a call, with what is given to it and its whole reply, and of lent lists what they hold then
 pub data Call : Type 0 where

@@ -19,12 +19,13 @@ use Rattle.table.specs.Kinds.{nestingAnswer}
 use Rattle.table.specs.Reading.{tableIn}
 use Rattle.table.specs.Writing.{fileOf}
 use Rattle.table.specs.Moving.{moveReply}
+use Rattle.table.specs.TableSamples.{task, table, p4Table, p4File, p8Table, p8File}
 use Rattle.schedule.specs.declared.Run.{Run}
 use Rattle.schedule.specs.Jobs.{jobAt}
 use Rattle.plans.specs.declared.Planned.{Planned}
 use Rattle.plans.specs.Planning.{listsFor, planReply, planMarks, planRuns}
 use Rattle.printed_plan.specs.ProgramInput.{planOutput}
-use Rattle.samples.specs.Inputs.{task, table, run, notWritten, notPlanned, planWith}
+use Rattle.samples.specs.Inputs.{run, notWritten, notPlanned, planWith}
 
 -- a table with its file, a launch tick, the reply of planning into lists that are just long enough, and of a plan its marks and runs
 pub record PlanSample : Type 0 where
@@ -93,23 +94,7 @@ atZero file = 0x00 ∷ 0x00 ∷ 0x00 ∷ 0x00 ∷ file
 abbrev pub atNoon : List ℕ → List ℕ
 atNoon file = 0x02 ∷ 0x93 ∷ 0x2E ∷ 0x00 ∷ file
 
--- P4: one task, period 100/1, frames 0 to 2, mandatory 100, optional 50; the file as document 01 prints it
-abbrev pub p4Table : Table
-p4Table = table 100 1 (task 0 2 100 50 ∷ [])
-
-abbrev pub p4File : List ℕ
-p4File = 0x02 ∷ 0x0C ∷ 0x80 ∷ 0x02 ∷ 0x00 ∷ 0x00 ∷ 0x00 ∷ 0x01 ∷ 0x00 ∷ 0xC8 ∷ 0x01 ∷ 0x90 ∷ []
-
--- P8: three tasks, p = q = 1; frames 0 to 10, 2 to 8 and 4 to 6, which are the ticks 1 to 10, 3 to 8 and 5 to 6
-abbrev pub p8Table : Table
-p8Table = table 1 1 (task 0 10 2 3 ∷ task 2 8 1 3 ∷ task 4 6 1 1 ∷ [])
-
-abbrev pub p8File : List ℕ
-p8File =
-    0x06 ∷ 0x00 ∷ 0x20 ∷ 0x02 ∷ 0x00 ∷ 0x00 ∷ 0x00 ∷ 0x05 ∷ 0x00 ∷ 0x04 ∷ 0x00 ∷ 0x18 ∷ 0x00 ∷ 0x08 ∷ 0x00 ∷ 0x10 ∷ 0x00 ∷ 0x08 ∷ 0x00 ∷ 0x60 ∷ 0x00 ∷ 0x40
-    ∷ 0x00 ∷ 0x30 ∷ 0x00 ∷ 0x20 ∷ 0x00 ∷ 0x80 ∷ []
-
--- the marks and the runs of their plan, and what is printed of it
+-- the marks and the runs of P8's plan, whose windows are the ticks 1 to 10, 3 to 8 and 5 to 6, and what is printed of it
 abbrev pub p8Marks : List ℕ
 p8Marks = 1 ∷ 0 ∷ 0 ∷ []
 

@@ -1,4 +1,4 @@
--- What a running of jobs is (document 01's term; the field says schedule), whoever made it. It gives each tick to one task or to none, a task
+-- What a running of jobs is (document 01's term; the literature says schedule), whoever made it. It gives each tick to one task or to none, a task
 -- gets ticks of its window only, and as many as it may: its mandatory ticks, or its mandatory and optional ticks together.
 use Prim.Native.Nat.{ℕ, _+_, _≤_, _<_}
 use mathlib.Core.Path.{_≡_}

@@ -1,5 +1,5 @@
--- What reading answers, as document 01's table of refusals has it, 7 as request 1 has it: for each case the number and the place. And the reply that reports
--- bytes written.
+-- What reading answers, as document 01's table of refusals has it, 7 as request 1 has it: for each case the number and the place. And the replies of calls
+-- that write bytes.
 use Prim.Native.Nat.{ℕ}
 use mathlib.Core.Bool.{Bool, true, false}
 use lib.Dec.{ltb}
@@ -50,7 +50,8 @@ firstRefusal first second = pick (isAccepted first) second first
 abbrev pub refusedAt : (ℕ → Answer) → (ℕ → Bool) → ℕ → Answer
 refusedAt refusal test n = pick (ltb (lowest test n) n) (refusal (lowest test n)) Accepted
 
--- the reply of writing or moving that refuses, and the one that reports bytes written: parts that are not named are 0
+-- the reply of a call that writes bytes (writing, moving, a table as text) where it refuses, and the one that reports bytes written: parts that are not named
+-- are 0
 abbrev pub declined : ℕ → ℕ → Written
 declined number place = record { number = number; place = place; bytes = 0 }
 

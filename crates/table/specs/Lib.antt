@@ -6,5 +6,6 @@ pub mod Kinds
 pub mod Reading
 pub mod Writing
 pub mod Moving
+pub mod TableSamples
 pub mod RowLimits
 pub mod WindowColumns

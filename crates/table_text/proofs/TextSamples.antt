@@ -18,7 +18,8 @@ use Rattle.lines.specs.Text.{decimalWithin, decimal, fields, line}
 use Rattle.lines.specs.Splitting.{isBlank, isDigit, withFirst, cutAt, nonempty, linesOf, wordsOf, valueAfter, valueOf, allDigits, isNumber, allNumbers, numbersOf}
 use Rattle.table_text.specs.TableText.{lineAt, numbersAt, countInText, pInText, qInText, due, lineWrong, linesChecked, rightLines, tableInText, parseReply, headLine, taskLine, taskLines, tableText, maxTableText, aboutTask, refusedLine}
 use Rattle.table_text.specs.Conversions.{textReply, textOver, fileReply, fileOver}
-use Rattle.table_text.specs.TextSamples.{TextSample, textSamples, FileSample, fileSamples, ShownSample, shownSamples, RefusedLineSample, refusedLineSamples, p8Table, p8Text}
+use Rattle.table.specs.TableSamples.{p8Table}
+use Rattle.table_text.specs.TextSamples.{TextSample, textSamples, FileSample, fileSamples, ShownSample, shownSamples, RefusedLineSample, refusedLineSamples, p8Text}
 
 -- The sample texts give what they should.
 pub samples-parsed : map (λ (s : TextSample). parseReply (s .text)) textSamples ≡ map (λ (s : TextSample). s .gives) textSamples

@@ -1,11 +1,11 @@
 -- Sample texts and what each gives, a sample table and its text, and the replies that follow from them. What is expected is written in plain numbers.
-use Prim.Native.Nat.{ℕ, _-_}
+use Prim.Native.Nat.{ℕ}
 use mathlib.Core.List.{List, [], _∷_, _++_}
-use lib.ListN.{length, replicate}
+use lib.ListN.{replicate}
 use Rattle.lines.specs.Ascii.{ascii, textOf}
-use Rattle.table.specs.declared.Task.{Task}
 use Rattle.table.specs.declared.Table.{Table}
 use Rattle.table.specs.declared.Written.{Written}
+use Rattle.table.specs.TableSamples.{task, table, p4Table, p4File, p8Table}
 use Rattle.table_text.specs.declared.Parsed.{Parsed}
 use Rattle.table_text.specs.declared.FromText.{FromText}
 
@@ -18,14 +18,6 @@ pub record TextSample : Type 0 where
 abbrev pub sample : List ℕ → Parsed → TextSample
 sample text gives = record { text = text; gives = gives }
 
--- a task: release frame, deadline frame, mandatory ticks, optional ticks
-abbrev pub task : ℕ → ℕ → ℕ → ℕ → Task
-task release deadline mandatory optional = record { release = release; deadline = deadline; mandatory = mandatory; optional = optional }
-
--- the table of period p/q with these tasks, by position: of its 64 places those beyond them are 0
-abbrev pub table : ℕ → ℕ → List Task → Table
-table p q tasks = record { count = length tasks; p = p; q = q; tasks = tasks ++ replicate (64 - length tasks) (task 0 0 0 0) }
-
 -- no line is wrong, and this is the table of the lines
 abbrev pub noneWrong : Table → Parsed
 noneWrong t = record { line = 0; due = 0; table = t }
@@ -34,15 +26,9 @@ noneWrong t = record { line = 0; due = 0; table = t }
 abbrev pub wrongAt : ℕ → ℕ → Parsed
 wrongAt line count = record { line = line; due = count; table = table 0 0 [] }
 
--- P4 and P8, as tables and as lines of text
-abbrev pub p4Table : Table
-p4Table = table 100 1 (task 0 2 100 50 ∷ [])
-
+-- P4 and P8 as lines of text
 abbrev pub p4Text : List ℕ
 p4Text = textOf ("1 100 1" ∷ "0 2 100 50" ∷ [])
-
-abbrev pub p8Table : Table
-p8Table = table 1 1 (task 0 10 2 3 ∷ task 2 8 1 3 ∷ task 4 6 1 1 ∷ [])
 
 abbrev pub p8Text : List ℕ
 p8Text = textOf ("3 1 1" ∷ "0 10 2 3" ∷ "2 8 1 3" ∷ "4 6 1 1" ∷ [])
@@ -81,10 +67,6 @@ textSamples =
     -- a task after the last
     ∷ sample (textOf ("1 100 1" ∷ "0 2 100 50" ∷ "0 2 100 50" ∷ [])) (wrongAt 3 0)
     ∷ []
-
--- P4's file as document 01 prints it
-abbrev pub p4File : List ℕ
-p4File = 0x02 ∷ 0x0C ∷ 0x80 ∷ 0x02 ∷ 0x00 ∷ 0x00 ∷ 0x00 ∷ 0x01 ∷ 0x00 ∷ 0xC8 ∷ 0x01 ∷ 0x90 ∷ []
 
 -- From a text to a file: a text, the list that is lent, the reply, and what the list holds then.
 pub record FileSample : Type 0 where

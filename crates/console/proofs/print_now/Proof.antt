@@ -7,7 +7,8 @@ use Rattle.printed_plan.specs.NowText.{nowLines, nowText}
 use Rattle.printed_plan.proofs.NowLaws.{now-length, now-refused, now-planned, plan-accepted}
 use Rattle.printed_plan.proofs.PrintLaws.{prints-put, prints-none, prints-same}
 use Rattle.report.specs.declared.FilePlan.{FilePlan}
-use Rattle.report.specs.FilePlans.{runsInPlan, PlanInLists}
+use Rattle.report.specs.FilePlans.{runsInPlan}
+use Rattle.report.proofs.FilePlanLaws.{PlanInLists, reply-left, plan-in-lists}
 use Rattle.console.proofs.print_now.Statement.{statement}
 use Rattle.console.proofs.print_now.Tie as tie
 
@@ -25,7 +26,7 @@ left c = planned c .plan-file .result
 in-lists : (c : tie.Else2) →
     let args = start (planned c) .args in
     PlanInLists (args .launch) (args .file .now) (left c)
-in-lists c = planned c .plan-file .ensures .made (c .if2 .left)
+in-lists c = plan-in-lists _ _ _ (planned c .plan-file .ensures) (c .if2 .left)
 
 -- the text of its runs is that of the file
 text-is : (c : tie.Else2) →
@@ -33,7 +34,7 @@ text-is : (c : tie.Else2) →
     nowLines (runsInPlan (left c)) (args .tick) (args .span) ≡ nowText (args .launch) (args .tick) (args .span) (args .file .now)
 text-is c =
     let args = start (planned c) .args in
-    now-planned (args .launch) (args .tick) (args .span) (args .file .now) (left c .reply) (planned c .plan-file .ensures .reply-is) (c .if2 .left) _
+    now-planned (args .launch) (args .tick) (args .span) (args .file .now) (left c .reply) (reply-left _ _ _ (planned c .plan-file .ensures)) (c .if2 .left) _
     (in-lists c .runs-are)
 
 returns : tie.Need-returns
@@ -53,7 +54,7 @@ returns-2 c =
     let refused = c .before .before .before .before in
     let plan = refused .before .before .before in
     let args = start plan .args in
-    let reply-is = plan .plan-file .ensures .reply-is in (
+    let reply-is = reply-left _ _ _ (plan .plan-file .ensures) in (
       prints-same _ _ _ _ _
           (now-refused (args .launch) (args .tick) (args .span) (args .file .now) (plan .plan-file .result .reply) reply-is (refused .if2 .taken))
           (c .before .before .print-refusal .ensures),

@@ -21,7 +21,7 @@ use Rattle.table.proofs.RoundTrip.{read-legal}
 use Rattle.reading.specs.AnyKind.{anyKindAnswer}
 use Rattle.reading.proofs.ReadLaws.{table-refused, table-accepted}
 use Rattle.orders.specs.Keys.{HasKeys}
-use Rattle.reading.proofs.AnyKindLaws.{any-kind-refused, any-kind-table, any-kind-served, any-kind-neither}
+use Rattle.reading.proofs.AnyKindLaws.{any-kind-answer, any-kind-in, any-kind-refused, any-kind-table, any-kind-served, any-kind-neither}
 use Rattle.plans.specs.declared.Planned.{Planned}
 use Rattle.plans.specs.Planning.{LentLists, planDeclined, planTable, planReply, listsAfter}
 use Rattle.plans.proofs.ReplyLaws.{table-kept, file-refused, file-accepted}
@@ -31,11 +31,11 @@ use Rattle.planner.proofs.plan_counted.Tie as tie
 
 -- past the `let .. else` nothing but 7 is left to refuse, and the table read is that of the file
 any-kind : (c : tie.After-enum-told) → anyKindAnswer (c .before .before .before .before .before .before .before .before .before .args .file .now) ≡ Accepted
-any-kind c = sym (c .before .before .before .read-any-kind .ensures .0) ∙ c .enum-told .given .1
+any-kind c = any-kind-in _ _ (c .before .before .before .read-any-kind .ensures) (c .enum-told .given .1) .0
 
 table-is : (c : tie.After-enum-told)
     → c .before .before .before .read-any-kind .result .table ≡ tableIn (c .before .before .before .before .before .before .before .before .before .args .file .now)
-table-is c = c .before .before .before .read-any-kind .ensures .1 (c .enum-told .given .1)
+table-is c = any-kind-in _ _ (c .before .before .before .read-any-kind .ensures) (c .enum-told .given .1) .1
 
 -- its tasks have keys
 has-keys : (c : tie.After-enum-told) → HasKeys (c .before .before .before .read-any-kind .result .table)
@@ -88,7 +88,7 @@ returns c =
     let read = c .before .before .before in
     let start = read .before .before .before .before .before .before in
     let answer = read .read-any-kind .result .answer in
-    let is = read .read-any-kind .ensures .0 in
+    let is = any-kind-answer _ _ (read .read-any-kind .ensures) in
     let bad = told-refused answer (c .before .match .keys2) in
     let same = is ∙ any-kind-refused (start .args .file .now) (ap isAccepted (sym is) ∙ bad) in
     refusal (start .args .launch) (start .args .file .now) (lent start) answer (c .refused .result) same (ap isAccepted (sym same) ∙ bad) (c .refused .ensures)

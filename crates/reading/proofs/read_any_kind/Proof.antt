@@ -1,7 +1,6 @@
 -- `reading::read_any_kind` meets its contract: the header's answer, else 6 from the table that was made.
 use mathlib.Core.Path.{_≡_, _∙_, sym, ap}
 use borrow.Author.Needs.{needs}
-use Rattle.base.proofs.TestLaws.{both-absurd}
 use Rattle.table.specs.declared.Table.{Table}
 use Rattle.table.specs.declared.Answer.the-variants.{Accepted}
 use Rattle.table.specs.Tables.{taskAt, tableOf}
@@ -10,7 +9,7 @@ use Rattle.table.specs.Kinds.{badWindowAnswer}
 use Rattle.table.specs.Reading.{tableIn, headAnswer}
 use Rattle.table.proofs.AnswerLaws.{told-refused}
 use Rattle.reading.proofs.ReadLaws.{head-few, head-bits}
-use Rattle.reading.proofs.AnyKindLaws.{any-kind-head, any-kind-windows}
+use Rattle.reading.proofs.AnyKindLaws.{reply-head, reply-windows}
 use Rattle.reading.proofs.read_any_kind.Statement.{statement}
 use Rattle.reading.proofs.read_any_kind.Tie as tie
 
@@ -26,8 +25,8 @@ none-requires c κs = search needs
 returns : tie.Need-returns
 returns c =
     let head = c .before .before .head-answer in
-    let refused = told-refused (head .result) (c .before .match .keys2) in
-    (head .ensures ∙ any-kind-head _ (ap isAccepted (sym (head .ensures)) ∙ refused), λ e. both-absurd (isAccepted (head .result)) (ap isAccepted e) refused)
+    let refused = ap isAccepted (sym (head .ensures)) ∙ told-refused (head .result) (c .before .match .keys2) in
+    reply-head _ _ refused (head .ensures) (c .none .ensures)
 
 -- past the `let .. else` the header is accepted
 accepted : (c : tie.After-enum-told) → headAnswer (c .before .before .before .before .args .file .now) ≡ Accepted
@@ -46,7 +45,7 @@ bad-window-in-requires c κs = rw (c .table-in .ensures) (head-few _ (accepted (
 returns-2 : tie.Need-returns-2
 returns-2 c =
     let made = c .before .table-in .ensures in
-    (c .bad-window-in .ensures ∙ (ap (λ (t : Table). badWindowAnswer (taskAt t) (t .count)) made ∙ any-kind-windows _ (accepted (c .before .before .before))), λ e. made)
+    reply-windows _ _ (accepted (c .before .before .before)) (c .bad-window-in .ensures ∙ ap (λ (t : Table). badWindowAnswer (taskAt t) (t .count)) made) made
 
 pub read-any-kind-spec : {M : Type 1} → statement M
 read-any-kind-spec =

@@ -1,7 +1,6 @@
 -- `report::plan_file` meets its contract: the lists that it lends are long enough for every table.
-use native.Mathlib.Omega.{arith}
 use borrow.Author.Needs.{needs}
-use Rattle.report.proofs.FilePlanLaws.{plan-of-file}
+use Rattle.report.proofs.FilePlanLaws.{left-is}
 use Rattle.report.proofs.plan_file.Statement.{statement}
 use Rattle.report.proofs.plan_file.Tie as tie
 
@@ -22,9 +21,8 @@ plan-counted-requires c κs = search needs
 
 returns : tie.Need-returns
 returns c =
-    let call = c .before .before .before .before .before .plan-counted in
-    let clauses = call .ensures in
-    plan-of-file _ _ _ (record { reply-is = clauses .1 .0; lists-are = clauses .1 .1 }) (clauses .0) (omega (arith, call .kept))
+    let clauses = c .before .before .before .before .before .plan-counted .ensures in
+    left-is _ _ _ (record { reply-is = clauses .1 .0; lists-are = clauses .1 .1 }) (clauses .0)
 
 pub plan-file-spec : {M : Type 1} → statement M
 plan-file-spec =

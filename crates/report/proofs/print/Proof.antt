@@ -10,7 +10,8 @@ use Rattle.printed_plan.specs.Printing.{planLines, printed}
 use Rattle.printed_plan.proofs.TextLaws.{printed-length, printed-refused, printed-planned}
 use Rattle.printed_plan.proofs.PrintLaws.{prints-put, prints-none, prints-same}
 use Rattle.report.specs.declared.FilePlan.{FilePlan}
-use Rattle.report.specs.FilePlans.{runsInPlan, PlanInLists}
+use Rattle.report.specs.FilePlans.{runsInPlan}
+use Rattle.report.proofs.FilePlanLaws.{PlanInLists, reply-left, plan-in-lists}
 use Rattle.report.proofs.print.Statement.{statement}
 use Rattle.report.proofs.print.Tie as tie
 
@@ -28,7 +29,7 @@ left c = planned c .plan-file .result
 in-lists : (c : tie.Else2) →
     let args = start (planned c) .args in
     PlanInLists (args .launch) (args .file .now) (left c)
-in-lists c = planned c .plan-file .ensures .made (c .if2 .left)
+in-lists c = plan-in-lists _ _ _ (planned c .plan-file .ensures) (c .if2 .left)
 
 -- its text
 abbrev text : FilePlan → List ℕ
@@ -40,7 +41,7 @@ text-is : (c : tie.Else2) →
     text (left c) ≡ printed (args .launch) (args .file .now)
 text-is c =
     let m = in-lists c in
-    printed-planned _ _ (left c .reply) (planned c .plan-file .ensures .reply-is) (c .if2 .left) _ _ _ (m .count-is) (m .marks-are) (m .runs-are)
+    printed-planned _ _ (left c .reply) (reply-left _ _ _ (planned c .plan-file .ensures)) (c .if2 .left) _ _ _ (m .count-is) (m .marks-are) (m .runs-are)
 
 returns : tie.Need-returns
 returns c = prints-none _ _ (c .if1 .taken)
@@ -58,7 +59,7 @@ returns-2 : tie.Need-returns-2
 returns-2 c =
     let refused = c .before .before .before .before in
     let plan = refused .before .before .before in
-    prints-same _ _ _ _ _ (printed-refused _ _ (plan .plan-file .result .reply) (plan .plan-file .ensures .reply-is) (refused .if2 .taken))
+    prints-same _ _ _ _ _ (printed-refused _ _ (plan .plan-file .result .reply) (reply-left _ _ _ (plan .plan-file .ensures)) (refused .if2 .taken))
     (c .before .before .print-refusal .ensures)
 
 cast-places : tie.Need-cast-places
