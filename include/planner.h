@@ -15,8 +15,8 @@
  * Ticks are milliseconds. A frame lasts p/q ticks. Planning and judging take a launch tick, 0 to 86399999 (a day's last tick), where frame 0 begins:
  * it is added to every tick of the frame clock. The data of a frame are complete when it ends: a window holds the ticks from launch plus the least tick
  * not before (release + 1) * p / q, included, to launch plus the greatest tick not after deadline * p / q, excluded. A window that has no tick is
- * empty, as every window of one frame is; its release tick may then lie one tick after its deadline tick. A task with mandatory ticks in an empty window is refused
- * with 8; one without is planned, and its optional part is discarded, where it has ticks. No run of a plan ends after tick
+ * empty, as every window of one frame is; its release tick may then lie one tick after its deadline tick. A table with mandatory ticks in an
+ * empty window is refused with 8; a task without hinders no plan, and its optional part is discarded, where it has ticks. No run of a plan ends after tick
  * 131071 * 4095 + 86399999 = 623135744.
  *
  * Tables of two kinds are accepted. Both are judged in frames, and each has an order of its tasks.

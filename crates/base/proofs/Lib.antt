@@ -1,4 +1,5 @@
 pub mod TestLaws
+pub mod PeriodLaws
 pub mod LowestLaws
 pub mod PlaceLaws
 pub mod ArrayFilling

@@ -38,6 +38,11 @@ and-right a b e = and-eq-true-iff a b .0 e .1
 pub and-not-second : (a b : Bool) → and a b ≡ false → a ≡ true → b ≡ false
 and-not-second a b e p = rw p at e
 
+-- a test that never holds adds nothing
+pub or-none : (a : Bool) → a ≡ or a false
+or-none true = refl
+or-none false = refl
+
 -- neither test holds exactly where each does not
 pub or-false : (a b : Bool) → a ≡ false → b ≡ false → or a b ≡ false
 or-false a b p q = rw (p, q)

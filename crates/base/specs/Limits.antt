@@ -1,6 +1,10 @@
--- The limits of the planner, named once for every definition. The code's names for the same numbers are the constants of src/lib.rt; `lastTick` has none.
+-- The limits of the planner, named once for every definition. The code's names for the same numbers are the constants of src/lib.rt; `mostRuns` and
+-- `lastTick` have none.
 -- `maxTicks` and `lastTick` stand in proofs and in contracts of inner functions: writing's 12 goes by the width of a field.
 use Prim.Native.Nat.{ℕ, _+_, _-_, _*_}
+use mathlib.Core.Bool.{Bool}
+use lib.Dec.{ltb, eqb}
+use Rattle.base.specs.Tests.{or}
 
 -- the most tasks of a table, and the places of a table value
 abbrev pub maxTasks : ℕ
@@ -25,6 +29,10 @@ lastFrame = 131_071
 -- the greatest p and q of a period p/q
 abbrev pub maxPeriod : ℕ
 maxPeriod = 4_095
+
+-- p or q is 0 or above 4,095, or p is below q
+abbrev pub badPeriod : ℕ → ℕ → Bool
+badPeriod p q = or (eqb p 0) (or (eqb q 0) (or (ltb maxPeriod p) (or (ltb maxPeriod q) (ltb p q))))
 
 -- the greatest length of a mandatory or an optional part in ticks
 abbrev pub maxTicks : ℕ

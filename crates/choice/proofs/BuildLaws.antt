@@ -14,7 +14,7 @@ use Rattle.base.proofs.TestLaws.{pick-cases}
 use Rattle.schedule.specs.declared.Job.{Job}
 use Rattle.schedule.specs.Jobs.{counts, windowTicks}
 use Rattle.schedule.specs.JobArrays.{Bounded}
-use Rattle.choice.specs.Choice.{total, fits, keepNone, countOne, kept, discarded, chosen}
+use Rattle.choice.specs.Choice.{fits, keepNone, countOne, kept, discarded, chosen}
 use Rattle.choice.specs.Programme.{mandatorySum, outermostTicks, allWorth, row, greatest, bestWorth, byRows}
 use Rattle.choice.specs.Decisions.{rowPlaces, hugeTicks, rowOf, backOf, jobsFrom, Reaches, Convex, JobAdded, Decided}
 use Rattle.choice.proofs.ProgrammeLaws.{greatest-only, greatest-same, row-below}
@@ -55,7 +55,7 @@ pub record Built (at : ℕ → Job) (count i : ℕ) (ticks ranks : List ℕ) (ma
 module _ (at : ℕ → Job) (count : ℕ) (small : count ≤ maxTasks) where
   -- no row is built yet
   pub built-start : (ticks ranks : List ℕ) → ticks ≡ replicate rowPlaces 0 → length ranks ≡ maxTasks → Built at count count ticks ranks 0 0 0
-  unfolding total row
+  unfolding row
   built-start ticks ranks blank len =
       let end = left-end at count count (omega arith) in
       record {
@@ -97,7 +97,6 @@ module _ (at : ℕ → Job) (count : ℕ) (small : count ≤ maxTasks) where
 
     -- its mandatory ticks are added
     mandatory-step : mandatory + at i .mandatory ≡ mandatorySum (at i ∷ jobsFrom at count (i + 1))
-    unfolding total
     mandatory-step = omega (arith, b .mandatory-is)
 
     -- they fit with nothing kept
@@ -143,7 +142,6 @@ module _ (at : ℕ → Job) (count : ℕ) (small : count ≤ maxTasks) where
 
       -- the row of one job more
       pub built-step : Built at count i row (set ranks i rank) (mandatory + at i .mandatory) (all + worth) next
-      unfolding total
       built-step =
           record {
             within-is = omega (arith, b .within-is);

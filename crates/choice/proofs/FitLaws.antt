@@ -10,7 +10,7 @@ use Rattle.base.proofs.TestLaws.{cases, both-absurd}
 use Rattle.schedule.specs.declared.Job.{Job}
 use Rattle.schedule.specs.Jobs.{workOf, counts, windowTicks, workWith}
 use Rattle.schedule.specs.Ticks.{oneIf}
-use Rattle.choice.specs.Choice.{total, worksFit, worksOf, fits, keepNone, keptTicks, discardedWorth, keptWorth, discarded}
+use Rattle.choice.specs.Choice.{worksFit, worksOf, fits, keepNone, keptTicks, discardedWorth, keptWorth, discarded}
 use Rattle.choice.specs.KeepLists.{totalWork}
 use Rattle.choice.specs.Programme.{mandatorySum, outermostTicks, allWorth}
 use Rattle.choice.proofs.WorkLaws.{NoMore, SameWindows, works-head, works-tail, works-cons, works-less, works-windows}
@@ -47,7 +47,7 @@ fits-length (job ∷ jobs) (keep ∷ keeps) e = ap suc (fits-length jobs keeps (
 
 -- all work is the mandatory ticks and the kept optional ones
 pub work-split : (jobs : List Job) (keeps : List Bool) → fits jobs keeps ≡ true → totalWork jobs keeps ≡ mandatorySum jobs + keptTicks jobs keeps
-unfolding worksFit worksOf total keptWorth
+unfolding worksFit worksOf keptWorth
 work-split [] [] e = refl
 work-split [] (keep ∷ keeps) e = both-absurd false e refl
 work-split (job ∷ jobs) [] e = both-absurd false e refl
@@ -56,14 +56,14 @@ work-split (job ∷ jobs) (keep ∷ keeps) e = omega (arith, work-split jobs kee
 -- where a list fits, the first window has room for all mandatory ticks and the kept ones
 pub fits-room : (job : Job) (jobs : List Job) (keep : Bool) (keeps : List Bool) → fits (job ∷ jobs) (keep ∷ keeps) ≡ true
     → mandatorySum (job ∷ jobs) + keptTicks (job ∷ jobs) (keep ∷ keeps) ≤ windowTicks job
-unfolding keptWorth total
+unfolding keptWorth
 fits-room job jobs keep keeps e =
     omega (arith, fits-head job jobs keep keeps e, work-split jobs keeps (fits-tail job jobs keep keeps e))
 
 -- and the other way round
 pub room-fits : (job : Job) (jobs : List Job) (keep : Bool) (keeps : List Bool) → fits jobs keeps ≡ true
     → mandatorySum (job ∷ jobs) + keptTicks (job ∷ jobs) (keep ∷ keeps) ≤ windowTicks job → fits (job ∷ jobs) (keep ∷ keeps) ≡ true
-unfolding keptWorth total
+unfolding keptWorth
 room-fits job jobs keep keeps e h = fits-cons job jobs keep keeps (omega (arith, work-split jobs keeps e)) e
 
 -- the list that keeps nothing keeps no worth
@@ -92,7 +92,7 @@ ticks-outermost (job ∷ jobs) (keep ∷ keeps) e = omega (arith, fits-room job 
 -- of a list of one mark a job, what is discarded and what is kept are all worth
 pub worth-split : (worth : Job → ℕ) (jobs : List Job) (keeps : List Bool) → length keeps ≡ length jobs
     → discardedWorth worth jobs keeps + keptWorth worth jobs keeps ≡ allWorth worth jobs
-unfolding discardedWorth keptWorth total
+unfolding discardedWorth keptWorth
 worth-split worth [] keeps n = refl
 worth-split worth (job ∷ jobs) [] n = absurd (omega arith)
 worth-split worth (job ∷ jobs) (true ∷ keeps) n = omega (arith, worth-split worth jobs keeps (omega arith))

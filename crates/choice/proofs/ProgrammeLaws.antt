@@ -11,7 +11,7 @@ use lib.Dec.{leb, ltb, eqb}
 use borrow.Author.Tests.{leb-true, leb-false, ltb-true, ltb-false, eqb-true, eqb-false, le-leb, lt-leb, lt-ltb, le-ltb}
 use Rattle.base.proofs.TestLaws.{pick-true, pick-false, both-absurd, pick-cases, picked}
 use Rattle.schedule.specs.declared.Job.{Job}
-use Rattle.choice.specs.Choice.{total, worksFit, worksOf, fits, keptTicks, discardMarks, keptWorth}
+use Rattle.choice.specs.Choice.{worksFit, worksOf, fits, keptTicks, discardMarks, keptWorth}
 use Rattle.choice.specs.KeepLists.{ZeroKept}
 use Rattle.schedule.specs.Jobs.{windowTicks}
 use Rattle.choice.specs.Programme.{mandatorySum, allWorth, ifRoom, keeping, row, greatest, backtrack}
@@ -168,7 +168,7 @@ module _ (worth : Job → ℕ) (huge : ℕ) where
 
   -- beyond the worth of all optional parts a row is huge
   pub row-beyond : (jobs : List Job) (v : ℕ) → allWorth worth jobs < v → row worth huge jobs v ≡ huge
-  unfolding row ifRoom total
+  unfolding row ifRoom
   row-beyond [] zero l = absurd (omega arith)
   row-beyond [] (suc v) l = refl
   row-beyond (job ∷ jobs) v l =

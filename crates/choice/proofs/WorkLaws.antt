@@ -7,8 +7,9 @@ use native.Mathlib.Omega.{arith}
 use lib.Dec.{leb}
 use borrow.Author.Tests.{leb-true, le-leb}
 use Rattle.base.proofs.TestLaws.{both-absurd, and-true, and-left, and-right}
+use Rattle.base.specs.Sums.{total}
 use Rattle.schedule.specs.declared.Job.{Job}
-use Rattle.choice.specs.Choice.{total, worksFit}
+use Rattle.choice.specs.Choice.{worksFit}
 use Rattle.schedule.specs.Jobs.{windowTicks}
 
 -- where works fit, the first window has room for all of them
@@ -37,7 +38,6 @@ NoMore (a ∷ xs) (b ∷ ys) = (a ≤ b) × NoMore xs ys
 
 -- nor is its sum
 pub total-less : (some more : List ℕ) → NoMore some more → total some ≤ total more
-unfolding total
 total-less [] [] l = omega arith
 total-less [] (b ∷ more) l = absurd l
 total-less (a ∷ some) [] l = absurd l

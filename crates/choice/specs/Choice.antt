@@ -5,14 +5,10 @@ use mathlib.Core.List.{List, [], _∷_, _++_, map}
 use mathlib.Core.Bool.{Bool, true, false, not}
 use lib.Dec.{leb, ltb, eqb}
 use Rattle.base.specs.Tests.{pick, and}
+use Rattle.base.specs.Sums.{total}
 use Rattle.schedule.specs.declared.Job.{Job}
 use Rattle.schedule.specs.Jobs.{counts, windowTicks, workWith}
 use Rattle.schedule.specs.Ticks.{oneIf}
-
--- the sum of some works
-unfoldable pub total : List ℕ → ℕ
-total [] = 0
-total (work ∷ works) = work + total works
 
 -- 'A list fits if, for each task in nest order, its work and that of all tasks before it come to no more than the ticks of its window.' Here for
 -- works in the order of the jobs. A list with fewer or more works than jobs does not fit.

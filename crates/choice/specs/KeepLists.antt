@@ -4,8 +4,9 @@ use mathlib.Core.Path.{_≡_}
 use mathlib.Core.List.{List, [], _∷_, _++_}
 use mathlib.Core.Bool.{Bool, true, false}
 use Rattle.base.specs.Arrays.{firstPlaces}
+use Rattle.base.specs.Sums.{total}
 use Rattle.schedule.specs.declared.Job.{Job}
-use Rattle.choice.specs.Choice.{total, worksOf, kept, discarded}
+use Rattle.choice.specs.Choice.{worksOf, kept, discarded}
 
 -- the work of all jobs together
 abbrev pub totalWork : List Job → List Bool → ℕ

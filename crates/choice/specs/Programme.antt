@@ -5,9 +5,9 @@ use mathlib.Core.List.{List, [], _∷_, map}
 use mathlib.Core.Bool.{Bool, true, false}
 use lib.Dec.{leb, ltb, eqb}
 use Rattle.base.specs.Tests.{pick}
+use Rattle.base.specs.Sums.{total}
 use Rattle.schedule.specs.declared.Job.{Job}
 use Rattle.schedule.specs.Jobs.{windowTicks}
-use Rattle.choice.specs.Choice.{total}
 
 -- the mandatory ticks of all jobs
 abbrev pub mandatorySum : List Job → ℕ

@@ -1,17 +1,19 @@
 -- The samples and the laws of the frame clock.
 use Prim.Native.Nat.{ℕ, zero, suc, _+_, _-_, _*_, _/_, _%_, _^_, _≤_, _<_}
 use mathlib.Core.Path.{_≡_, refl}
-use mathlib.Core.Bool.{true}
+use mathlib.Core.Bool.{false}
 use native.Mathlib.Nat.{le-refl, mul-le-mul, mul-le-mul-right, add-mul, add-mul-div-right, div-zero, div-add-mod', div-le-self, div-mul-le-self, div-lt-iff-lt-mul, le-div-iff-mul-le, lt-div-mul-add}
 use native.Mathlib.Omega.{arith}
-use Rattle.base.specs.Limits.{lastFrame, maxPeriod, maxLaunch, lastTick}
-use Rattle.clock.specs.Clock.{LegalPeriod, releaseOffset, deadlineOffset, releaseTick, deadlineTick, LeastNotBefore, GreatestNotAfter}
-use Rattle.clock.specs.ClockSamples.{clockSamples, sampleHolds, everySampleHolds}
+use Rattle.base.specs.Members.{All}
+use Rattle.base.specs.Limits.{lastFrame, maxPeriod, badPeriod, maxLaunch, lastTick}
+use Rattle.base.proofs.PeriodLaws.{period-known}
+use Rattle.clock.specs.Clock.{releaseOffset, deadlineOffset, releaseTick, deadlineTick, LeastNotBefore, GreatestNotAfter}
+use Rattle.clock.specs.ClockSamples.{clockSamples, ClockSays}
 
 -- The clock gives both ticks of every sample.
-pub clock-samples : everySampleHolds clockSamples ≡ true
-unfolding releaseOffset deadlineOffset releaseTick deadlineTick sampleHolds everySampleHolds
-clock-samples = refl
+pub clock-samples : All ClockSays clockSamples
+unfolding releaseOffset deadlineOffset releaseTick deadlineTick
+clock-samples = ((refl, refl), ((refl, refl), ((refl, refl), ((refl, refl), ((refl, refl), tt)))))
 
 -- With launch tick 0 the ticks are those counted from the launch, and a launch tick makes every tick later by it.
 pub release-launch-0 : (p q f : ℕ) → releaseTick 0 p q f ≡ releaseOffset p q f
@@ -158,22 +160,23 @@ pub tick-fits : {x launch : ℕ} (q : ℕ) → x ≤ greatest → launch ≤ max
 tick-fits {x} q few low = omega (arith, div-le-self x q)
 
 -- The deadline tick of a frame that a table can name is at most where the last frame begins at the longest period, after the greatest launch tick.
-pub deadline-bounded : (launch p q f : ℕ) → launch ≤ maxLaunch → LegalPeriod p q → f ≤ lastFrame
+pub deadline-bounded : (launch p q f : ℕ) → launch ≤ maxLaunch → badPeriod p q ≡ false → f ≤ lastFrame
     → deadlineTick launch p q f ≤ lastFrame * maxPeriod + maxLaunch
 unfolding deadlineTick deadlineOffset
 deadline-bounded launch p q f low legal h =
-    let product : f * p ≤ lastFrame * maxPeriod = mul-le-mul h (legal .small) in
+    let product : f * p ≤ lastFrame * maxPeriod = mul-le-mul h (period-known p q legal .2) in
     omega (arith, div-le-self (f * p) q)
 
 -- Both ticks of such a frame are at most the greatest tick, which fits 32 bits.
-pub ticks-bounded : (launch p q f : ℕ) → launch ≤ maxLaunch → LegalPeriod p q → f ≤ lastFrame
+pub ticks-bounded : (launch p q f : ℕ) → launch ≤ maxLaunch → badPeriod p q ≡ false → f ≤ lastFrame
     → (releaseTick launch p q f ≤ lastTick) × (deadlineTick launch p q f ≤ lastTick)
 unfolding releaseTick
 ticks-bounded launch p q f low legal h =
+    let period = period-known p q legal in
     let end : f + 1 ≤ lastFrame + 1 = omega arith in
-    let product : (f + 1) * p ≤ (lastFrame + 1) * maxPeriod = mul-le-mul end (legal .small) in
-    let more : (f + 1) * p * 1 ≤ (f + 1) * p * q = mul-le-mul (le-refl ((f + 1) * p)) (legal .positive) in
-    let least = release-least p q f ((f + 1) * p) (legal .positive) (omega (arith, more)) in
+    let product : (f + 1) * p ≤ (lastFrame + 1) * maxPeriod = mul-le-mul end (period .2) in
+    let more : (f + 1) * p * 1 ≤ (f + 1) * p * q = mul-le-mul (le-refl ((f + 1) * p)) (period .0) in
+    let least = release-least p q f ((f + 1) * p) (period .0) (omega (arith, more)) in
     (omega arith, omega (arith, deadline-bounded launch p q f low legal h))
 
 pub last-tick-fits : lastTick < 2 ^ 32

@@ -3,13 +3,7 @@ use Prim.Native.Nat.{ℕ, _+_, _-_, _*_, _/_, _≤_}
 use mathlib.Core.Path.{_≡_}
 use mathlib.Core.Bool.{Bool}
 use lib.Dec.{ltb}
-use Rattle.base.specs.Limits.{maxPeriod, maxLaunch}
-
--- each of p and q is 1 to 4,095, and p is at least q
-pub record LegalPeriod (p q : ℕ) : Type 0 where
-  pub positive : 1 ≤ q
-  pub ordered : q ≤ p
-  pub small : p ≤ maxPeriod
+use Rattle.base.specs.Limits.{maxLaunch}
 
 -- 14: 'the launch tick is above 86,399,999'
 abbrev pub badLaunch : ℕ → Bool

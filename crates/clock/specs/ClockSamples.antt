@@ -1,9 +1,7 @@
 -- The samples of the frame clock: P1 to P3 as documents 01 and 02 give them, P1's frame at a launch tick, and a frame that ends on a tick.
 use Prim.Native.Nat.{ℕ}
-use mathlib.Core.Bool.{Bool, true}
+use mathlib.Core.Path.{_≡_}
 use mathlib.Core.List.{List, [], _∷_}
-use lib.Dec.{eqb}
-use Rattle.base.specs.Tests.{and}
 use Rattle.clock.specs.Clock.{releaseTick, deadlineTick}
 
 -- a frame under the period p/q and a launch tick, with the ticks expected of a release and of a deadline in it
@@ -26,11 +24,6 @@ clockSamples =
     ∷ []
 
 -- the clock gives both ticks of a sample
-unfoldable pub sampleHolds : ClockSample → Bool
-sampleHolds s =
-    and (eqb (releaseTick (s .launch) (s .p) (s .q) (s .frame)) (s .release)) (eqb (deadlineTick (s .launch) (s .p) (s .q) (s .frame)) (s .deadline))
-
--- the clock gives both ticks of every sample
-unfoldable pub everySampleHolds : List ClockSample → Bool
-everySampleHolds [] = true
-everySampleHolds (s ∷ rest) = and (sampleHolds s) (everySampleHolds rest)
+abbrev pub ClockSays : ClockSample → Type 0
+ClockSays s =
+    (releaseTick (s .launch) (s .p) (s .q) (s .frame) ≡ s .release) × (deadlineTick (s .launch) (s .p) (s .q) (s .frame) ≡ s .deadline)

@@ -2,9 +2,10 @@
 // the launch tick. A release waits for the end of its frame, which is where the next frame begins. Both functions multiply first and divide once, so no
 // error is carried from frame to frame.
 ghost use mathlib.Core.Path.{_≡_};
+ghost use mathlib.Core.Bool.{false};
 ghost use Prim.Native.Nat.{_≤_};
-ghost use Rattle.base.specs.Limits.{lastFrame, maxLaunch};
-ghost use Rattle.clock.specs.Clock.{badLaunch, releaseTick, deadlineTick, LegalPeriod, LeastNotBefore, GreatestNotAfter};
+ghost use Rattle.base.specs.Limits.{lastFrame, maxLaunch, badPeriod};
+ghost use Rattle.clock.specs.Clock.{badLaunch, releaseTick, deadlineTick, LeastNotBefore, GreatestNotAfter};
 use base::MAX_LAUNCH;
 
 // The launch tick is above the limit.
@@ -18,7 +19,7 @@ pub fn bad_launch(launch: u32) -> bool
 pub fn release_tick(launch: u32, frame: u32, p: u32, q: u32) -> u32
     requires { ⌜ launch ≤ maxLaunch ⌝ }
     requires { ⌜ frame ≤ lastFrame ⌝ }
-    requires { ⌜ LegalPeriod p q ⌝ }
+    requires { ⌜ badPeriod p q ≡ false ⌝ }
     ensures tick { λ r. ⌜ r ≡ releaseTick launch p q frame ⌝ }
     ensures least { λ r. ⌜ LeastNotBefore launch p q frame r ⌝ }
 {
@@ -29,7 +30,7 @@ pub fn release_tick(launch: u32, frame: u32, p: u32, q: u32) -> u32
 pub fn deadline_tick(launch: u32, frame: u32, p: u32, q: u32) -> u32
     requires { ⌜ launch ≤ maxLaunch ⌝ }
     requires { ⌜ frame ≤ lastFrame ⌝ }
-    requires { ⌜ LegalPeriod p q ⌝ }
+    requires { ⌜ badPeriod p q ≡ false ⌝ }
     ensures tick { λ r. ⌜ r ≡ deadlineTick launch p q frame ⌝ }
     ensures greatest { λ r. ⌜ GreatestNotAfter launch p q frame r ⌝ }
 {

@@ -8,11 +8,12 @@ use lib.ListN.{length}
 use borrow.Author.Tests.{ne-eqb, ltb-false}
 use Rattle.base.specs.Lent.{writtenFront}
 use Rattle.base.proofs.TestLaws.{pick-cases}
+use Rattle.base.specs.Limits.{badPeriod}
 use Rattle.bits.specs.Bits.{Bytes}
 use Rattle.table.specs.declared.Table.{Table}
 use Rattle.table.specs.declared.Written.{Written}
 use Rattle.table.specs.Answers.{isAccepted, wrote}
-use Rattle.table.specs.Layout.{fileLength, badCount, badPeriod}
+use Rattle.table.specs.Layout.{fileLength, badCount}
 use Rattle.table.specs.Kinds.{tableWindowsAnswer}
 use Rattle.table.specs.Writing.{firstTooWide, rowsReply, writeReply, writtenOver}
 use Rattle.table_text.specs.declared.Parsed.{Parsed}

@@ -6,7 +6,7 @@ use mathlib.Core.List.{List, [], _∷_, _++_, map, append-nil, append-assoc}
 use native.Mathlib.Omega.{arith}
 use lib.ListN.{length}
 use borrow.Author.Tests.{le-leb}
-use Rattle.base.specs.Members.{All}
+use Rattle.base.specs.Members.{All, everyMember}
 use Rattle.base.proofs.TestLaws.{and-true}
 use Rattle.base.proofs.MemberLaws.{all-map, all-append}
 use Rattle.lines.specs.Text.{space, newline, decimal, fields, line}
@@ -33,7 +33,7 @@ decimal-plain test fails n h =
 
 -- they are digits alone,
 digits-all : (bytes : List ℕ) → All (λ byte. (48 ≤ byte) × (byte ≤ 57)) bytes → allDigits bytes ≡ true
-unfolding allDigits
+unfolding everyMember
 digits-all [] h = refl
 digits-all (byte ∷ bytes) h = and-true (isDigit byte) (allDigits bytes) (known-digit byte (h .0 .0) (h .0 .1)) (digits-all bytes (h .1))
 
@@ -63,7 +63,7 @@ words-kept (n ∷ numbers) h =
 
 -- which are numbers,
 words-numbers : (numbers : List ℕ) → Small numbers → allNumbers (map decimal numbers) ≡ true
-unfolding allNumbers
+unfolding everyMember
 words-numbers [] h = refl
 words-numbers (n ∷ numbers) h = and-true (isNumber (decimal n)) (allNumbers (map decimal numbers)) (decimal-number n (h .0)) (words-numbers numbers (h .1))
 

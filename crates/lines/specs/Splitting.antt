@@ -1,9 +1,10 @@
 -- Taking a text apart: into its lines, a line into its words, and a word into the number that it means.
 use Prim.Native.Nat.{ℕ, _+_, _-_, _*_}
-use mathlib.Core.Bool.{Bool, true}
+use mathlib.Core.Bool.{Bool}
 use mathlib.Core.List.{List, [], _∷_, map}
 use lib.Dec.{leb, eqb}
 use Rattle.base.specs.Tests.{pick, and, or}
+use Rattle.base.specs.Members.{everyMember}
 use Rattle.lines.specs.Text.{space, newline, digit}
 
 -- the blanks: space, tab and carriage return
@@ -48,9 +49,8 @@ unfoldable pub valueOf : List ℕ → ℕ
 valueOf word = valueAfter 0 word
 
 -- every byte of a word is a digit
-unfoldable pub allDigits : List ℕ → Bool
-allDigits [] = true
-allDigits (byte ∷ bytes) = and (isDigit byte) (allDigits bytes)
+abbrev pub allDigits : List ℕ → Bool
+allDigits = everyMember isDigit
 
 -- the greatest number that a word may mean
 abbrev pub maxNumber : ℕ
@@ -61,9 +61,8 @@ unfoldable pub isNumber : List ℕ → Bool
 isNumber word = and (allDigits word) (leb (valueOf word) maxNumber)
 
 -- every word of a list is a number
-unfoldable pub allNumbers : List (List ℕ) → Bool
-allNumbers [] = true
-allNumbers (word ∷ words) = and (isNumber word) (allNumbers words)
+abbrev pub allNumbers : List (List ℕ) → Bool
+allNumbers = everyMember isNumber
 
 -- the numbers of a line's words
 unfoldable pub numbersOf : List ℕ → List ℕ

@@ -16,7 +16,6 @@ use Rattle.schedule.specs.Ticks.{Owner, oneIf}
 use Rattle.schedule.specs.Runnings.{WindowHolds, got, RunningOf, Whole, Running, discards, Fewest}
 use Rattle.schedule.specs.Runs.{ownerOf, TogetherOf}
 use Rattle.schedule.proofs.JudgeLaws.{discards-places}
-use Rattle.choice.specs.Choice.{total}
 use Rattle.orders.specs.KindOrder.{kindBefore, orderLastFirst, jobsLastFirst}
 use Rattle.orders.proofs.SortLaws.{sumOver, count-order}
 use Rattle.orders.proofs.OrderLaws.{all-jobs, any-jobs}
@@ -59,7 +58,7 @@ together-of-order launch May workBy t numbers runs g =
 -- what is discarded, as a sum over positions
 discards-sum : (launch : ℕ) (t : Table) (owner : Owner) (js : List ℕ)
     → discards (map (jobAt launch t) js) owner ≡ sumOver (λ k. oneIf (and (counts (jobAt launch t k)) (eqb (got owner (jobAt launch t k)) (jobAt launch t k .mandatory)))) js
-unfolding discards total
+unfolding discards
 discards-sum launch t owner [] = refl
 discards-sum launch t owner (j ∷ js) =
     ap (λ (x : ℕ). oneIf (and (counts (jobAt launch t j)) (eqb (got owner (jobAt launch t j)) (jobAt launch t j .mandatory))) + x) (discards-sum launch t owner js)

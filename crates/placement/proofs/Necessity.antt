@@ -14,8 +14,9 @@ use Rattle.schedule.specs.Ticks.{Owner, isTask, ticksOf}
 use Rattle.schedule.specs.Runnings.{got, Gets, Running, discards, Whole}
 use Rattle.base.specs.Members.{All}
 use Rattle.base.specs.Arrays.{Distinct}
+use Rattle.base.specs.Sums.{total}
 use Rattle.schedule.proofs.TickLaws.{shares, count-grows, shares-fit}
-use Rattle.choice.specs.Choice.{total, worksFit, worksOf, fits, discardedWorth, discarded}
+use Rattle.choice.specs.Choice.{worksFit, worksOf, fits, discardedWorth, discarded}
 use Rattle.choice.specs.KeepLists.{totalWork}
 use Rattle.schedule.specs.Jobs.{workWith}
 use Rattle.choice.proofs.WorkLaws.{works-cons}
@@ -38,7 +39,7 @@ got-between owner job a b u =
 
 -- what the jobs get are ticks of theirs between any two ticks that their windows lie between
 got-shares : (owner : Owner) (jobs : List Job) (a b : ℕ) → All (Between a b) jobs → total (gotWorks jobs owner) ≤ shares owner (positions jobs) a b
-unfolding total shares
+unfolding shares
 got-shares owner [] a b u = omega arith
 got-shares owner (job ∷ jobs) a b u = omega (arith, got-between owner job a b (u .0), got-shares owner jobs a b (u .1))
 
@@ -48,7 +49,7 @@ got-within owner jobs a b d u = omega (arith, got-shares owner jobs a b u, share
 
 -- Necessity: what the jobs of a chain get fits, whoever has the ticks and however many each job may get.
 pub got-fit : (jobs : List Job) (owner : Owner) → Chain jobs → worksFit jobs (gotWorks jobs owner) ≡ true
-unfolding worksFit total
+unfolding worksFit
 got-fit [] owner c = refl
 got-fit (job ∷ jobs) owner c =
     works-cons job jobs (got owner job) (gotWorks jobs owner)

@@ -12,9 +12,9 @@ use borrow.Author.Tests.{leb-true, le-leb, lt-ltb, eqb-true, eqb-false}
 use Rattle.base.proofs.TestLaws.{cases, and-true, and-left, and-right}
 use Rattle.schedule.specs.declared.Job.{Job}
 use Rattle.schedule.specs.Ticks.{Owner}
-use Rattle.base.specs.Members.{All}
+use Rattle.base.specs.Members.{All, everyMember}
 use Rattle.schedule.specs.declared.Run.{Run}
-use Rattle.schedule.specs.Runs.{ownerOf, everyRun}
+use Rattle.schedule.specs.Runs.{ownerOf}
 use Rattle.schedule.specs.Judging.{noneEmpty, followFrom, eachFollows}
 use Rattle.schedule.proofs.RunLaws.{in-holds, after-holds, free-before}
 use Rattle.choice.specs.Choice.{worksFit, worksOf, fits}
@@ -135,7 +135,7 @@ turn-owner owner run runs rest top d ne fo says tick h =
 -- turning all runs round
 turn : (owner : Owner) (runs rest : List Run) (top : ℕ) → Reads owner runs top → noneEmpty rest ≡ true → followFrom top rest ≡ true
     → ((tick : ℕ) → top ≤ tick → ownerOf rest tick ≡ owner tick) → Listed owner (reverseAux runs rest)
-unfolding everyRun followFrom eachFollows
+unfolding everyMember followFrom eachFollows
 turn owner [] rest top d ne fo says =
     record {
       nonempty = ne;
@@ -154,7 +154,7 @@ turn owner (run ∷ runs) rest top d ne fo says =
 
 -- The stretches of an owner who has no tick from n on: none is empty, they stand by start, and they say who has each tick.
 pub stretches-listed : (owner : Owner) (n : ℕ) → ((tick : ℕ) → n ≤ tick → owner tick ≡ none) → Listed owner (stretches owner n)
-unfolding everyRun followFrom ownerOf
+unfolding everyMember followFrom ownerOf
 stretches-listed owner n free = turn owner (latestFirst owner n) [] n (latest-reads owner n .0) refl refl (λ tick h. sym (free tick h))
 
 -- The runs of a placing of a chain, where the works fit and no deadline is after b: none is empty, they stand by start, they say who has each

@@ -16,9 +16,10 @@ use Rattle.schedule.specs.Ticks.{Owner, isTask, oneIf, countBelow, sumBelow}
 use Rattle.schedule.specs.Runnings.{WindowHolds, got}
 use Rattle.base.specs.Members.{All, Any}
 use Rattle.base.proofs.MemberLaws.{all-map}
+use Rattle.base.specs.Sums.{total}
 use Rattle.schedule.proofs.TickLaws.{count-grows, count-same, count-none}
 use Rattle.schedule.proofs.RunLaws.{owner-cases}
-use Rattle.choice.specs.Choice.{total, worksFit, worksOf, fits}
+use Rattle.choice.specs.Choice.{worksFit, worksOf, fits}
 use Rattle.choice.proofs.WorkLaws.{works-head, works-tail}
 use Rattle.placement.specs.Chains.{Between, positions, Chain}
 use Rattle.placement.specs.Placing.{isFree, freeIn, give, reachesBack, placeJob, worksPlaced, placed}
@@ -219,7 +220,6 @@ module _ (owner : Owner) (job : Job) (w : ℕ) (jobs : List Job) (works : List �
 
   -- with the job placed it is a placing again
   place-step : Placed (job ∷ jobs) (w ∷ works) after
-  unfolding total
   place-step =
       record {
         inside = own-inside;
@@ -229,7 +229,7 @@ module _ (owner : Owner) (job : Job) (w : ℕ) (jobs : List Job) (works : List �
 
 -- Sufficiency: where works of a chain fit, placing gives each job its work inside its window, and takes no other tick.
 pub works-placed : (jobs : List Job) (works : List ℕ) → Chain jobs → worksFit jobs works ≡ true → Placed jobs works (worksPlaced jobs works)
-unfolding worksPlaced worksFit total
+unfolding worksPlaced worksFit
 works-placed [] [] c e =
     record {
       inside = λ tick i e. let z : _≡_ {A = ℕ} 0 1 = cc in omega arith;

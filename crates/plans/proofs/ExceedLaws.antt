@@ -15,7 +15,7 @@ use Rattle.schedule.specs.declared.Job.{Job}
 use Rattle.schedule.specs.Jobs.{windowTicks, workWith}
 use Rattle.base.specs.Members.{All}
 use Rattle.base.proofs.MemberLaws.{all-reverse}
-use Rattle.choice.specs.Choice.{total, worksFit, worksOf, fits, keepNone}
+use Rattle.choice.specs.Choice.{worksFit, worksOf, fits, keepNone}
 use Rattle.choice.specs.KeepLists.{totalWork}
 use Rattle.choice.specs.Programme.{mandatorySum}
 use Rattle.plans.specs.Planning.{exceedingAfter}
@@ -24,7 +24,7 @@ use Rattle.plans.specs.Planning.{exceedingAfter}
 pub exceeding-append : (n sum : ℕ) (xs ys : List Job) → All (λ job. job .position < n) xs
     → exceedingAfter n sum (xs ++ ys)
     ≡ pick (ltb (exceedingAfter n sum xs) n) (exceedingAfter n sum xs) (exceedingAfter n (sum + mandatorySum xs) ys)
-unfolding exceedingAfter total
+unfolding exceedingAfter
 exceeding-append n sum [] ys h = let e : sum + 0 ≡ sum = omega arith in rw (le-ltb n n (omega arith), e)
 exceeding-append n sum (job ∷ xs) ys h =
     cases (ltb (windowTicks job) (sum + job .mandatory))
@@ -60,18 +60,16 @@ module _ (at : ℕ → Job) (n sum : ℕ) where
 
 -- sums over a list that is turned round
 sum-append : (xs ys : List Job) → mandatorySum (xs ++ ys) ≡ mandatorySum xs + mandatorySum ys
-unfolding total
 sum-append [] ys = omega arith
 sum-append (job ∷ xs) ys = omega (arith, sum-append xs ys)
 
 pub sum-reverse : (jobs : List Job) → mandatorySum (reverse jobs) ≡ mandatorySum jobs
-unfolding total
 sum-reverse [] = refl
 sum-reverse (job ∷ jobs) = rw (reverse-cons job jobs) (omega (arith, sum-append (reverse jobs) (job ∷ []), sum-reverse jobs))
 
 -- a list that keeps nothing has the mandatory ticks for its work
 none-work : (jobs : List Job) → totalWork jobs (keepNone jobs) ≡ mandatorySum jobs
-unfolding total worksOf
+unfolding worksOf
 none-work [] = refl
 none-work (job ∷ jobs) = omega (arith, none-work jobs)
 
@@ -94,7 +92,7 @@ one-more n place position false false h e = rw (e, e)
 -- some task exceeds its window exactly where the mandatory parts do not fit
 pub exceeding-test : (n : ℕ) (jobs : List Job) → All (λ job. job .position < n) jobs
     → ltb (exceedingAfter n 0 (reverse jobs)) n ≡ not (fits jobs (keepNone jobs))
-unfolding exceedingAfter worksFit worksOf total
+unfolding exceedingAfter worksFit worksOf
 exceeding-test n [] h = le-ltb n n (omega arith)
 exceeding-test n (job ∷ jobs) h =
     let split = exceeding-append n 0 (reverse jobs) (job ∷ []) (all-reverse (λ job. job .position < n) jobs (h .1)) in

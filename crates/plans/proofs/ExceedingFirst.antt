@@ -15,7 +15,7 @@ use Rattle.base.proofs.MemberLaws.{all-reverse, all-members}
 use Rattle.table.specs.declared.Table.{Table}
 use Rattle.schedule.specs.Jobs.{jobAt, windowTicks}
 use Rattle.schedule.proofs.JudgeLaws.{job-position}
-use Rattle.choice.specs.Choice.{total, worksOf, fits, keepNone}
+use Rattle.choice.specs.Choice.{worksOf, fits, keepNone}
 use Rattle.choice.specs.Programme.{mandatorySum}
 use Rattle.orders.specs.KindOrder.{kindBefore, orderLastFirst, jobsLastFirst}
 use Rattle.orders.proofs.SortLaws.{order-below, sumOver, Sorted}
@@ -45,7 +45,6 @@ module _ (launch : ℕ) (t : Table) where
 
   -- their sum
   mandatory-sum : (js : List ℕ) → mandatorySum (map (jobAt launch t) js) ≡ sumOver mandatoryAt js
-  unfolding total
   mandatory-sum [] = refl
   mandatory-sum (j ∷ js) = ap (λ (x : ℕ). jobAt launch t j .mandatory + x) (mandatory-sum js)
 

@@ -21,7 +21,7 @@ use Rattle.schedule.specs.Jobs.{jobOf, jobAt, workOf, counts}
 use Rattle.schedule.specs.Ticks.{oneIf}
 use Rattle.schedule.specs.Judging.{discardedCount, countMarked}
 use Rattle.schedule.proofs.JudgeLaws.{job-position}
-use Rattle.choice.specs.Choice.{total, worksOf, keptWorth, keptTicks, discardedWorth, discarded}
+use Rattle.choice.specs.Choice.{worksOf, keptWorth, keptTicks, discardedWorth, discarded}
 use Rattle.choice.proofs.FitLaws.{discarded-cons}
 use Rattle.placement.proofs.PlanLaws.{SameMarks}
 use Rattle.orders.specs.KindOrder.{kindBefore, orderLastFirst, jobsLastFirst}
@@ -123,13 +123,13 @@ module _ (launch : ℕ) (t : Table) where
 
     ticks-by : (js : List ℕ) → keptTicks (map (jobAt launch t) js) (map (keepAt marks) js)
         ≡ sumOver (λ k. pick (keepAt marks k) (jobAt launch t k .optional) 0) js
-    unfolding keptWorth total
+    unfolding keptWorth
     ticks-by [] = refl
     ticks-by (j ∷ js) = ap (λ (x : ℕ). pick (keepAt marks j) (jobAt launch t j .optional) 0 + x) (ticks-by js)
 
     discarded-by : (js : List ℕ) → All (λ k. getD marks k 0 ≤ 1) js
         → discarded (map (jobAt launch t) js) (map (keepAt marks) js) ≡ sumOver (λ k. oneIf (and (counts (jobAt launch t k)) (eqb (getD marks k 0) 0))) js
-    unfolding total discardedWorth
+    unfolding discardedWorth
     discarded-by [] l = refl
     discarded-by (j ∷ js) l =
         discarded-cons (jobAt launch t j) (map (jobAt launch t) js) (keepAt marks j) (map (keepAt marks) js)

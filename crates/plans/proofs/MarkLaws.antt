@@ -16,7 +16,7 @@ use Rattle.schedule.specs.Ticks.{oneIf}
 use Rattle.base.specs.Members.{All}
 use Rattle.base.specs.Arrays.{Distinct}
 use Rattle.schedule.proofs.JudgeLaws.{job-position}
-use Rattle.choice.specs.Choice.{total, keptWorth, kept}
+use Rattle.choice.specs.Choice.{keptWorth, kept}
 use Rattle.placement.specs.Chains.{positions}
 use Rattle.placement.specs.ByPosition.{numberAt}
 use Rattle.placement.proofs.PlanLaws.{SameNumbers, SameMarks}
@@ -61,7 +61,7 @@ kept-one false false = refl
 -- The kept count of a keep list is the sum over its positions by the marks.
 pub kept-marks : (launch : ℕ) (t : Table) (marks js : List ℕ) (keeps : List Bool) → SameMarks (map (jobAt launch t) js) keeps marks
     → kept (map (jobAt launch t) js) keeps ≡ sumOver (λ k. oneIf (and (counts (jobAt launch t k)) (eqb (getD marks k 0) 1))) js
-unfolding keptWorth total
+unfolding keptWorth
 kept-marks launch t marks [] keeps s = refl
 kept-marks launch t marks (j ∷ js) [] s = absurd s
 kept-marks launch t marks (j ∷ js) (keep ∷ keeps) s =

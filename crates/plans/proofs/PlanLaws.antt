@@ -25,7 +25,7 @@ use Rattle.schedule.specs.Ticks.{Owner}
 use Rattle.schedule.specs.Runnings.{Whole, Running, discards}
 use Rattle.base.specs.Members.{All}
 use Rattle.schedule.specs.Runs.{tooMany, ownerOf, Together}
-use Rattle.schedule.specs.Judging.{verdict, firstBadMark, judgeSays, judgeByVerdict, judgeTable, judgeFile, judgeReply, countMarked, keptCount, discardedCount}
+use Rattle.schedule.specs.Judging.{verdict, firstBadMark, judgeSays, judgeByVerdict, judgeTable, judgeReply, countMarked, keptCount, discardedCount}
 use Rattle.schedule.proofs.JudgeLaws.{job-position, together-discards, judge-verdict}
 use Rattle.base.specs.Limits.{maxRuns}
 use Rattle.placement.proofs.RunOrder.{Listed}
@@ -211,5 +211,5 @@ pub record Plannable (launch : ℕ) (file : List ℕ) : Type 0 where
 pub plan-judged : (launch : ℕ) (file : List ℕ) → Plannable launch file
     → judgeReply launch file (planMarks launch (tableIn file)) (planRuns launch (tableIn file))
     ≡ judgeSays true (planOf launch (tableIn file) .kept) (planOf launch (tableIn file) .discarded)
-unfolding judgeReply judgeFile
+unfolding judgeReply
 plan-judged launch file p = rw (p .accepted) (table-judged launch (tableIn file) (p .legal) (p .none) (p .launched))

@@ -14,7 +14,7 @@ use Rattle.base.proofs.TestLaws.{both-absurd, or-first, or-false}
 use Rattle.base.proofs.MemberLaws.{all-members}
 use Rattle.table.specs.declared.Table.{Table}
 use Rattle.schedule.specs.Jobs.{jobAt, windowTicks}
-use Rattle.choice.specs.Choice.{total, worksFit}
+use Rattle.choice.specs.Choice.{worksFit}
 use Rattle.choice.proofs.WorkLaws.{works-head, works-tail, works-cons}
 use Rattle.orders.specs.KindOrder.{kindBefore, orderLastFirst, jobsLastFirst}
 use Rattle.orders.proofs.SortLaws.{sumOver, sum-order, Sorted}
@@ -48,7 +48,7 @@ module _ (launch : ℕ) (t : Table) (ticks : ℕ → ℕ) where
 
   -- up to the last they are all
   pub up-first : (k : ℕ) (js : List ℕ) → All (λ j. kindBefore t j k ≡ true) js → listUpTo (k ∷ js) k ≡ ticks k + sumOver ticks js
-  unfolding listUpTo total
+  unfolding listUpTo
   up-first k js h = rw (upTo-self t k) (ap (λ (x : ℕ). ticks k + x) (whole js h))
     where
       whole : (js : List ℕ) → All (λ j. kindBefore t j k ≡ true) js → sumOver (λ j. pick (upTo t j k) (ticks j) 0) js ≡ sumOver ticks js
@@ -57,7 +57,7 @@ module _ (launch : ℕ) (t : Table) (ticks : ℕ → ℕ) where
 
   -- up to another the last adds nothing
   pub up-rest : (k i : ℕ) (js : List ℕ) → kindBefore t i k ≡ true → listUpTo (k ∷ js) i ≡ listUpTo js i
-  unfolding listUpTo total
+  unfolding listUpTo
   up-rest k i js e = rw (upTo-after t k i e) (omega arith)
 
   -- works of positions that stand last first fit exactly where each window has the ticks for those up to its task

@@ -6,13 +6,13 @@ use mathlib.Core.Bool.{false}
 use Rattle.clock.specs.Clock.{badLaunch}
 use Rattle.table.specs.declared.Table.{Table}
 use Rattle.table.specs.Kinds.{isNested}
-use Rattle.table.specs.Reading.{tableIn}
+use Rattle.table.specs.Reading.{tableIn, replyOnFile}
 use Rattle.schedule.specs.declared.Job.{Job}
 use Rattle.schedule.specs.Shifting.{laterRuns}
 use Rattle.schedule.specs.Earlier.{earlierJobAt}
 use Rattle.orders.specs.KindOrder.{orderLastFirst}
 use Rattle.plans.specs.declared.Planned.{Planned}
-use Rattle.plans.specs.Planning.{LentLists, replyOnFile, replyBy, afterBy, planReply, listsAfter}
+use Rattle.plans.specs.Planning.{LentLists, planDeclined, replyBy, afterBy, planReply, listsAfter}
 use Rattle.plans.specs.Demands.{runsIn}
 
 -- 'With launch 0 every earlier answer holds.' The earlier answers are those without a launch tick.
@@ -23,7 +23,7 @@ earlierJobs t = map (earlierJobAt t) (orderLastFirst t)
 
 -- the reply of planning: reading's refusals, then 8 and 9
 unfoldable pub earlierReply : List ℕ → LentLists → Planned
-earlierReply file lists = replyOnFile (λ t. replyBy (isNested t) (t .count) (earlierJobs t) lists) file
+earlierReply file lists = replyOnFile planDeclined (λ t. replyBy (isNested t) (t .count) (earlierJobs t) lists) file
 
 -- what the lent lists hold afterwards
 unfoldable pub earlierLists : List ℕ → Planned → LentLists → LentLists

@@ -12,8 +12,7 @@ use Rattle.base.specs.Lent.{ListParameter, writtenFront}
 use Rattle.clock.specs.Clock.{badLaunch}
 use Rattle.table.specs.declared.Table.{Table}
 use Rattle.table.specs.Kinds.{isNested}
-use Rattle.table.specs.Answers.{numberOf, placeOf, isAccepted}
-use Rattle.table.specs.Reading.{tableIn, readAnswer}
+use Rattle.table.specs.Reading.{replyOnFile}
 use Rattle.schedule.specs.declared.Job.{Job}
 use Rattle.schedule.specs.declared.Run.{Run}
 use Rattle.schedule.specs.Jobs.{windowTicks}
@@ -133,18 +132,13 @@ planMarks launch t = marksBy (isNested t) (t .count) (jobsLastFirst launch t)
 unfoldable pub planRuns : ℕ → Table → List Run
 planRuns launch t = planRunsBy (isNested t) (jobsLastFirst launch t)
 
--- what planning replies on a file: of an accepted one what it replies on its table, and else reading's refusal
-abbrev pub replyOnFile : (Table → Planned) → List ℕ → Planned
-replyOnFile reply file =
-    pick (isAccepted (readAnswer file)) (reply (tableIn file)) (planDeclined (numberOf (readAnswer file)) (placeOf (readAnswer file)))
-
 -- what planning replies on the table of an accepted file: 14, then 8 and 9, then the plan
 unfoldable pub planTable : ℕ → Table → LentLists → Planned
 planTable launch t lists = pick (badLaunch launch) (planDeclined 14 0) (replyBy (isNested t) (t .count) (jobsLastFirst launch t) lists)
 
 -- the reply of planning: reading's refusals, then 14, 8 and 9
 unfoldable pub planReply : ℕ → List ℕ → LentLists → Planned
-planReply launch file lists = replyOnFile (λ t. planTable launch t lists) file
+planReply launch file lists = replyOnFile planDeclined (λ t. planTable launch t lists) file
 
 -- what the lists hold after planning a table that got a reply
 unfoldable pub listsAfter : ℕ → Table → Planned → LentLists → LentLists

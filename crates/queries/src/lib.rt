@@ -2,6 +2,7 @@
 // a tick with an interval, and the check that tells what the queries and the busy count refuse. The records are copied into columns once, and the search is
 // done there.
 ghost use mathlib.Core.Path.{_≡_};
+ghost use Rattle.schedule.specs.LentRuns.{BeginsAt};
 ghost use Rattle.schedule.specs.RunCheck.{checkAnswer};
 ghost use Rattle.schedule.specs.Queries.{runAtTick, runFromTick, HoldsTick, FirstFrom, touching, stretchOf, TouchingStretch};
 ghost use Rattle.records.specs.RecordColumns.{LegalColumns, copiedRuns};
@@ -102,10 +103,11 @@ pub fn run_from(runs: &[Run], tick: u32) -> Found
     run_from_copied(records::columns_of(runs), tick)
 }
 
-// The stretch of the caller's own run list whose runs share a tick with the interval from `a` to `b`; it is empty where the check refuses the list. Where
-// in the caller's list an empty stretch lies is left free.
+// The stretch of the caller's own run list whose runs share a tick with the interval from `a` to `b`; it is empty where the check refuses the list. An
+// empty stretch lies at the list's front.
 pub fn touching(runs: &[Run], a: u32, b: u32) -> &[Run]
-    ensures runs_are { λ r. ⌜ now r ≡ touching (now (runs .entry)) a b ⌝ }
+    ensures runs_are { λ r. ⌜ (now r ≡ touching (now (runs .entry)) a b)
+        × BeginsAt (stretchOf (now (runs .entry)) a b .first) (runs .entry) r ⌝ }
     ensures unbroken { λ r. ⌜ TouchingStretch a b (now (runs .entry)) (now r) ⌝ }
 {
     let bounds = bounds_copied(records::columns_of(runs), a, b);

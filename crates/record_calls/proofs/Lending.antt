@@ -45,6 +45,7 @@ use denote.Triple.Walked.{says}
 use denote.Triple.Call.{calls-at}
 use Rattle.records.specs.RecordColumns.{maxCopied}
 use Rattle.records.proofs.Walking.{returned}
+use Rattle.schedule.specs.LentRuns.{BeginsAt}
 use Rattle.records.proofs.stretch as stretch
 use Rattle.schedule.specs.declared.Run.{Run}
 use Rattle.schedule.proofs.Run as mRun
@@ -218,5 +219,5 @@ module _ {M : Type 1} {𝓤 : URA M} {H : Heap 𝓤} {A : Atoms 𝓤} {K : Type 
         asks-list t framed stretch.ended (stretch.clauses 𝓤 H A at-mem run) known (to-stretch 𝓤 H A at-mem run rows count l α γ)
         α (lentRows rows l γ) (lentVal l)
         (goes-stretch 𝓤 H A at-mem run W rows count l α γ gc (subst (λ (n : ℕ). count ≤ n) (sym long) few)) (id⊢ 𝓤 _)
-        (λ r. r .now ≡ take (count - 0) (drop-list 0 rows)) (λ r e. id⊢ 𝓤 _) args (λ v r e is. move t (2 ∷ []) $ drop t $ move t (1 ∷ 0 ∷ []) $
-        k v r (e ∙ ap (λ (n : ℕ). take n rows) (sub-zero count)) is)
+        (λ r. (r .now ≡ take (count - 0) (drop-list 0 rows)) × BeginsAt 0 (lentRows rows l γ) r) (λ r e. id⊢ 𝓤 _) args (λ v r e is. move t (2 ∷ []) $ drop t $ move t (1 ∷ 0 ∷ []) $
+        k v r (e .0 ∙ ap (λ (n : ℕ). take n rows) (sub-zero count)) is)

@@ -3,6 +3,7 @@
 ghost use mathlib.Core.Path.{_≡_};
 ghost use Prim.Native.Nat.{_-_, _<_, _≤_, min};
 ghost use lib.ListN.{length, getD, take, drop};
+ghost use Rattle.schedule.specs.LentRuns.{BeginsAt};
 ghost use Rattle.schedule.specs.Runs.{noRun};
 ghost use Rattle.records.specs.RecordColumns.{maxCopied, noNumbers, columnsOf, madeOf};
 use base::MAX_RUNS;
@@ -30,7 +31,7 @@ pub fn record_at(runs: &[Run], i: usize) -> Run
 // The stretch from one index to another, which is excluded, of the caller's own list.
 pub fn stretch(runs: &[Run], from: usize, to: usize) -> &[Run]
     requires { ⌜ (from ≤ to) × (to ≤ length (now runs)) ⌝ }
-    ensures { λ r. ⌜ now r ≡ take (to - from) (drop from (now (runs .entry))) ⌝ }
+    ensures { λ r. ⌜ (now r ≡ take (to - from) (drop from (now (runs .entry)))) × BeginsAt from (runs .entry) r ⌝ }
 {
     &runs[from..to]
 }

@@ -8,7 +8,7 @@ use lib.ListN.{length}
 use borrow.Author.Tests.{eqb-true, le-ltb, lt-ltb, le-leb}
 use Rattle.base.specs.Lent.{writtenFront}
 use Rattle.base.specs.Limits.{maxRuns}
-use Rattle.base.specs.Members.{All}
+use Rattle.base.specs.Members.{All, everyMember}
 use Rattle.base.specs.Places.{placesFrom, places}
 use Rattle.base.proofs.MemberLaws.{all-append}
 use Rattle.table.specs.declared.Task.{Task}
@@ -25,7 +25,7 @@ use Rattle.table.proofs.FileLaws.{accepted-legal}
 use Rattle.table.proofs.RoundTrip.{written-read}
 use Rattle.table.specs.TableSamples.{task, p8Table, p8File}
 use Rattle.schedule.specs.declared.RunsAnswer.the-variants as checked
-use Rattle.schedule.specs.Runs.{tooMany, everyRun, sumRuns}
+use Rattle.schedule.specs.Runs.{tooMany}
 use Rattle.schedule.specs.Judging.{noneEmpty, followFrom, eachFollows}
 use Rattle.schedule.specs.RunCheck.{checkAnswer, runsNumber, runsPlace}
 use Rattle.schedule.specs.BusyCount.{shared, busySum, busyReply}
@@ -118,7 +118,7 @@ ticks-many from zero = refl
 ticks-many from (suc n) = ap suc (ticks-many (suc from) n)
 
 ticks-ordered : (from n : ℕ) → (noneEmpty (tickRuns from n) ≡ true) × (followFrom from (tickRuns from n) ≡ true)
-unfolding tickRuns everyRun followFrom
+unfolding tickRuns everyMember followFrom
 ticks-ordered from zero = (refl, refl)
 ticks-ordered from (suc n) =
     let rest = ticks-ordered (suc from) n in
@@ -131,7 +131,7 @@ ticks-accepted n h = ordered-accepted (tickRuns 0 n) (rw (ticks-many 0 n) (le-lt
 
 -- each adds one to the sum of an interval around it,
 ticks-sum : (a b from n : ℕ) → a ≤ from → from + n ≤ b → busySum a b (tickRuns from n) ≡ n
-unfolding tickRuns sumRuns shared
+unfolding tickRuns shared
 ticks-sum a b from zero l h = refl
 ticks-sum a b from (suc n) l h = omega (arith, ticks-sum a b (suc from) n (omega arith) (omega arith))
 

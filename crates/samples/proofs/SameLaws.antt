@@ -7,7 +7,7 @@ use lib.Dec.{eqb}
 use lib.ListN.{getD}
 use borrow.Author.Tests.{eqb-true}
 use Rattle.base.specs.Tests.{and}
-use Rattle.base.specs.Members.{All}
+use Rattle.base.specs.Members.{All, everyMember}
 use Rattle.base.proofs.TestLaws.{and-left, and-right, both-absurd}
 use Rattle.table.specs.declared.Task.{Task}
 use Rattle.table.specs.declared.Table.{Table}
@@ -21,14 +21,14 @@ use Rattle.schedule.specs.Runs.{startsOf, endsOf, tasksOf}
 use Rattle.schedule.proofs.ColumnLaws.{columns-runs}
 use Rattle.plans.specs.declared.Planned.{Planned}
 use Rattle.plans.specs.Planning.{LentLists, lent}
-use Rattle.samples.specs.SampleTests.{allPass, numbersEqual, runsEqual, tasksEqual, header, tablesEqual, listsEqual, planParts, writtenParts, judgedParts, busyParts}
+use Rattle.samples.specs.SampleTests.{numbersEqual, runsEqual, tasksEqual, header, tablesEqual, listsEqual, planParts, writtenParts, judgedParts, busyParts}
 
 -- what every row says, from a test that every row passes
-pub pass-all : {A : Type 0} (P : A → Type 0) (test : A → Bool) (rows : List A) → ((row : A) → test row ≡ true → P row) → allPass test rows ≡ true → All P rows
-unfolding allPass
+pub pass-all : {A : Type 0} (P : A → Type 0) (test : A → Bool) (rows : List A) → ((row : A) → test row ≡ true → P row) → everyMember test rows ≡ true → All P rows
+unfolding everyMember
 pass-all P test [] says e = tt
 pass-all P test (row ∷ rows) says e =
-    (says row (and-left (test row) (allPass test rows) e), pass-all P test rows says (and-right (test row) (allPass test rows) e))
+    (says row (and-left (test row) (everyMember test rows) e), pass-all P test rows says (and-right (test row) (everyMember test rows) e))
 
 -- what two tests say where both hold, and three where all do
 pub both : {P Q : Type 0} (a b : Bool) → (a ≡ true → P) → (b ≡ true → Q) → and a b ≡ true → P × Q

@@ -53,11 +53,6 @@ use Rattle.samples.specs.Refusals.{
   foundParts,
 }
 
--- every row of a list passes
-unfoldable pub allPass : {A : Type 0} → (A → Bool) → List A → Bool
-allPass test [] = true
-allPass test (row ∷ rows) = and (test row) (allPass test rows)
-
 -- two lists of numbers are equal
 unfoldable pub numbersEqual : List ℕ → List ℕ → Bool
 numbersEqual [] [] = true

@@ -9,8 +9,7 @@ use mathlib.Core.List.{List, [], _∷_, _++_, map}
 use lib.ListN.{length}
 use lib.IntN.{ℤ, negsuc}
 use Rattle.lines.specs.Ascii.{textOf}
-use Rattle.clock.specs.Clock.{releaseTick, deadlineTick}
-use Rattle.clock.specs.ClockSamples.{ClockSample, clockSamples}
+use Rattle.clock.specs.ClockSamples.{ClockSample, clockSamples, ClockSays}
 use Rattle.table.specs.declared.Table.{Table}
 use Rattle.table.specs.declared.Written.{Written}
 use Rattle.table.specs.declared.Answer.the-variants.{Kind}
@@ -101,8 +100,8 @@ p8Marks = 1 ∷ 0 ∷ 0 ∷ []
 abbrev pub p8Runs : List Run
 p8Runs = run 3 5 0 ∷ run 5 6 2 ∷ run 6 7 0 ∷ run 7 8 1 ∷ run 8 10 0 ∷ []
 
-abbrev pub p8Text : List ℕ
-p8Text =
+abbrev pub p8PlanText : List ℕ
+p8PlanText =
     textOf
     ("PLAN 3 1 2"
     ∷ "DROP 1"
@@ -204,7 +203,7 @@ computedSamples =
     0 0 (1 ∷ []) []
     -- P8: the three tasks, of which 1 and 2 are dropped, and their whole printed plan
     ∷ planned p8Table p8File 1 2 p8Marks p8Runs
-    ∷ text record { input = atZero p8File; text = p8Text }
+    ∷ text record { input = atZero p8File; text = p8PlanText }
     -- P9: frames 0 to 5 and 5 to 9, accepted as similar, which are the ticks 1 to 5 and 6 to 9; with 2 and 3, and 1 and 2, chosen here: task 0 has no room
     -- for its part, and each task runs as early as it can
     ∷ planned (table 1 1 (task 0 5 2 3 ∷ task 5 9 1 2 ∷ []))
@@ -354,7 +353,7 @@ PlanSays s =
     × (s .reply .number ≡ 0 → (planMarks (s .launch) (s .table) ≡ s .marks) × (planRuns (s .launch) (s .table) ≡ s .runs))
 
 abbrev pub Says : Sample → Type 0
-Says (clock s) = (releaseTick (s .launch) (s .p) (s .q) (s .frame) ≡ s .release) × (deadlineTick (s .launch) (s .p) (s .q) (s .frame) ≡ s .deadline)
+Says (clock s) = ClockSays s
 Says (plan s) = PlanSays s
 Says (window s) =
     (jobAt (s .launch) (s .table) (s .position) .release ≡ s .release) × (jobAt (s .launch) (s .table) (s .position) .deadline ≡ s .deadline)

@@ -9,7 +9,7 @@ use Rattle.schedule.specs.declared.Busy.{Busy}
 use Rattle.schedule.specs.declared.Run.{Run}
 use Rattle.schedule.specs.declared.RunsAnswer.the-variants as checked
 use Rattle.schedule.specs.Ticks.{isOwned, countBelow, countBetween, ticksOwned}
-use Rattle.schedule.specs.Runs.{runHolds, ownerOf, sumRuns}
+use Rattle.schedule.specs.Runs.{runHolds, ownerOf}
 use Rattle.schedule.specs.Judging.{noneEmpty, followFrom, eachFollows}
 use Rattle.schedule.specs.RunCheck.{checkAnswer}
 use Rattle.schedule.specs.BusyCount.{shared, busySum, busyReply, CountsTicks}
@@ -44,7 +44,6 @@ shared-is a b run =
 
 -- of an empty interval the sum is 0
 sum-none-interval : (a b : ℕ) (runs : List Run) → b ≤ a → busySum a b runs ≡ 0
-unfolding sumRuns
 sum-none-interval a b [] h = refl
 sum-none-interval a b (run ∷ runs) h = omega (arith, shared-none-interval a b run h, sum-none-interval a b runs h)
 
@@ -56,7 +55,6 @@ held-split from run runs ne fo n = rw (run-count run n) (own-count isOwned refl 
 -- so the sum is the number of ticks of the interval that some run holds
 sum-ordered : (from : ℕ) (runs : List Run) → noneEmpty runs ≡ true → followFrom from runs ≡ true → (a b : ℕ) → a ≤ b
     → busySum a b runs ≡ ticksOwned (ownerOf runs) a b
-unfolding sumRuns
 sum-ordered from [] ne fo a b h = omega (arith, free-count isOwned refl a, free-count isOwned refl b)
 sum-ordered from (run ∷ runs) ne fo a b h =
     omega (

@@ -2,7 +2,7 @@
 use Prim.Native.Nat.{ℕ, _≤_, _<_}
 use native.Mathlib.Omega.{arith}
 use Rattle.base.specs.Limits.{lastFrame, maxLaunch, lastTick}
-use Rattle.clock.specs.Clock.{releaseTick, deadlineTick, LegalPeriod}
+use Rattle.clock.specs.Clock.{releaseTick, deadlineTick}
 use Rattle.clock.proofs.ClockLaws.{ticks-bounded}
 use Rattle.table.specs.declared.Table.{Table}
 use Rattle.table.specs.Tables.{taskAt}
@@ -10,14 +10,8 @@ use Rattle.table.specs.Writing.{Legal}
 use Rattle.table.proofs.FileLaws.{narrow-known}
 use Rattle.schedule.specs.Jobs.{jobOf, jobAt}
 use Rattle.schedule.specs.JobArrays.{Bounded}
-use Rattle.table.proofs.RowFiles.{period-known}
 
--- the period of an accepted table, and its frames
-pub legal-period : (t : Table) → Legal t → LegalPeriod (t .p) (t .q)
-legal-period t l =
-    let k = period-known (t .p) (t .q) (l .timed) in
-    record { positive = omega arith; ordered = k .1; small = k .2 }
-
+-- the frames of an accepted table
 pub legal-frames : (t : Table) → Legal t → (k : ℕ) → k < t .count → (taskAt t k .release ≤ lastFrame) × (taskAt t k .deadline ≤ lastFrame)
 legal-frames t l k h =
     let n = narrow-known (taskAt t k) (l .narrow k h) in
@@ -29,7 +23,7 @@ unfolding jobAt jobOf
 job-bounded launch t low legal k l =
     let task = narrow-known (taskAt t k) (legal .narrow k l) in
     let ticks : (f : ℕ) → f ≤ lastFrame → (releaseTick launch (t .p) (t .q) f ≤ lastTick) × (deadlineTick launch (t .p) (t .q) f ≤ lastTick) =
-    λ f h. ticks-bounded launch (t .p) (t .q) f low (legal-period t legal) h in
+    λ f h. ticks-bounded launch (t .p) (t .q) f low (legal .timed) h in
     record {
       release = ticks (taskAt t k .release) (omega (arith, task .release)) .0;
       deadline = ticks (taskAt t k .deadline) (omega (arith, task .deadline)) .1;

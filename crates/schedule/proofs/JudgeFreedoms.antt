@@ -11,15 +11,16 @@ use Rattle.base.specs.Tests.{pick, and}
 use Rattle.base.proofs.TestLaws.{cases, pick-same}
 use Rattle.base.proofs.LowestLaws.{every-same}
 use Rattle.base.proofs.LowestLaws as lowest-laws
+use Rattle.base.specs.Members.{everyMember}
 use Rattle.table.specs.declared.Table.{Table}
 use Rattle.table.specs.Answers.{isAccepted}
 use Rattle.table.specs.Reading.{tableIn, readAnswer}
 use Rattle.schedule.specs.declared.Job.{Job}
 use Rattle.schedule.specs.declared.Run.{Run}
 use Rattle.schedule.specs.Jobs.{jobOf, jobAt, workOf, counts}
-use Rattle.schedule.specs.Runs.{runOf, everyRun, sumRuns}
+use Rattle.schedule.specs.Runs.{runOf, sumRuns}
 use Rattle.schedule.specs.Judging.{noneEmpty, followFrom, eachFollows, knownTasks, insideWindow, inWindows, totalOf, exactTotals, verdictByJobs, verdict}
-use Rattle.schedule.specs.Judging.{countMarked, keptCount, discardedCount, judgeSays, judgeFile, judgeReply}
+use Rattle.schedule.specs.Judging.{countMarked, keptCount, discardedCount, judgeSays, judgeReply}
 use Rattle.schedule.specs.Freedoms.{SameAtParts, EquallyGood}
 use Rattle.schedule.proofs.TickLaws.{count-same}
 use Rattle.schedule.proofs.JudgeLaws.{table-says}
@@ -69,7 +70,7 @@ zero-marks-says launch t marks other runs h =
 pub zero-marks-judged : (launch : ℕ) (file marks other : List ℕ) (runs : List Run) → SameAtParts (tableIn file) marks other
     → judgeReply launch file marks runs .number ≡ 0 → judgeReply launch file other runs .number ≡ 0
     → judgeReply launch file marks runs ≡ judgeReply launch file other runs
-unfolding judgeReply judgeFile
+unfolding judgeReply
 zero-marks-judged launch file marks other runs h =
     let t = tableIn file in
     cases (isAccepted (readAnswer file))
@@ -86,14 +87,13 @@ zero-marks-judged launch file marks other runs h =
 module _ (s m e k : ℕ) (first : s < m) (second : m < e) (after : List Run) where
   -- a test that the whole run passes exactly where both parts do, and a number of it that is the sum of theirs
   every-cut : (test : Run → Bool) → test (runOf s e k) ≡ and (test (runOf s m k)) (test (runOf m e k)) → (before : List Run)
-      → everyRun test (before ++ runOf s e k ∷ after) ≡ everyRun test (before ++ runOf s m k ∷ runOf m e k ∷ after)
-  unfolding everyRun
+      → everyMember test (before ++ runOf s e k ∷ after) ≡ everyMember test (before ++ runOf s m k ∷ runOf m e k ∷ after)
+  unfolding everyMember
   every-cut test h [] = rw h (cases (test (runOf s m k)) (λ t. rw t) (λ t. rw t))
   every-cut test h (run ∷ before) = rw (every-cut test h before)
 
   sum-cut : (number : Run → ℕ) → number (runOf s e k) ≡ number (runOf s m k) + number (runOf m e k) → (before : List Run)
       → sumRuns number (before ++ runOf s e k ∷ after) ≡ sumRuns number (before ++ runOf s m k ∷ runOf m e k ∷ after)
-  unfolding sumRuns
   sum-cut number h [] = omega (arith, h)
   sum-cut number h (run ∷ before) = rw (sum-cut number h before)
 

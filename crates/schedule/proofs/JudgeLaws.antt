@@ -26,9 +26,10 @@ use Rattle.schedule.specs.Ticks.{Owner, oneIf, countBelow, sumBelow}
 use Rattle.schedule.specs.Runnings.{WindowHolds, got, Gets, discards, Whole}
 use Rattle.base.specs.Members.{All, Any}
 use Rattle.base.proofs.MemberLaws.{all-map, any-map, all-members, any-member, all-places, any-places}
+use Rattle.base.specs.Sums.{total}
 use Rattle.schedule.specs.declared.Run.{Run}
 use Rattle.schedule.specs.Runs.{runHolds, ownerOf, Together, tooMany}
-use Rattle.schedule.specs.Judging.{noneEmpty, eachFollows, knownTasks, insideWindow, inWindows, totalOf, exactTotals, verdictByJobs, verdict, countMarked, keptCount, discardedCount, firstBadMark, judgeSays, judgeByVerdict, judgeTable, judgeFile, judgeReply, Acceptable}
+use Rattle.schedule.specs.Judging.{noneEmpty, eachFollows, knownTasks, insideWindow, inWindows, totalOf, exactTotals, verdictByJobs, verdict, countMarked, keptCount, discardedCount, firstBadMark, judgeSays, judgeByVerdict, judgeTable, judgeReply, Acceptable}
 use Rattle.schedule.proofs.RunLaws.{in-holds, run-holds, every-each, owner-is-run, owner-has-run, run-ticks}
 
 -- The conditions of the verdict, as facts of each run and of each task.
@@ -272,7 +273,7 @@ refused-nonzero a e z = eqb-false (numberOf a) 0 (refused-number a e) z
 -- a running.
 pub judge-sound : (launch : ℕ) (file marks : List ℕ) (runs : List Run) → judgeReply launch file marks runs .number ≡ 0
     → (judgeReply launch file marks runs .yes ≡ true) ↔ Acceptable launch file marks runs
-unfolding judgeReply judgeFile
+unfolding judgeReply
 judge-sound launch file marks runs =
     cases (isAccepted (readAnswer file))
     (λ e.

@@ -13,7 +13,7 @@ use Rattle.table.specs.Reading.{tableIn}
 use Rattle.schedule.specs.declared.Run.{Run}
 use Rattle.schedule.specs.Jobs.{jobOf, jobAt}
 use Rattle.schedule.specs.Runs.{tooMany}
-use Rattle.schedule.specs.Judging.{verdictByJobs, verdict, judgeByVerdict, judgeTable, judgeFile, judgeReply}
+use Rattle.schedule.specs.Judging.{verdictByJobs, verdict, judgeByVerdict, judgeTable, judgeReply}
 use Rattle.schedule.specs.Shifting.{laterRun, laterRuns}
 use Rattle.schedule.specs.LaterJobs.{laterJob}
 use Rattle.schedule.specs.Earlier.{earlierJobAt, earlierJudged}
@@ -46,11 +46,11 @@ verdict-launch launch t marks runs =
 -- So the judge's reply to them at an accepted launch tick is its reply to the runs with launch 0, refusals too.
 pub judge-launch : (launch : ℕ) (file marks : List ℕ) (runs : List Run) → badLaunch launch ≡ false
     → judgeReply launch file marks (laterRuns launch runs) ≡ judgeReply 0 file marks runs
-unfolding judgeReply judgeFile judgeTable judgeByVerdict tooMany
+unfolding judgeReply judgeTable judgeByVerdict tooMany
 judge-launch launch file marks runs low =
     rw (low, length-map runs (laterRun launch), verdict-launch launch (tableIn file) marks runs)
 
 -- With launch 0 every earlier answer of the judge holds.
 pub judge-launch-0 : (file marks : List ℕ) (runs : List Run) → judgeReply 0 file marks runs ≡ earlierJudged file marks runs
-unfolding judgeReply judgeFile judgeTable verdict earlierJudged
+unfolding judgeReply judgeTable verdict earlierJudged
 judge-launch-0 file marks runs = rw (fun-ext (job-launch-0 (tableIn file)))

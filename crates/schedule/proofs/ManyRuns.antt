@@ -6,7 +6,7 @@ use mathlib.Core.Bool.{Bool, true}
 use mathlib.Core.List.{List}
 use Rattle.schedule.specs.declared.Run.{Run}
 use Rattle.schedule.specs.Runs.{tooMany}
-use Rattle.schedule.specs.Judging.{judgeByVerdict, judgeTable, judgeFile, judgeReply}
+use Rattle.schedule.specs.Judging.{judgeByVerdict, judgeTable, judgeReply}
 use Rattle.schedule.specs.RunCheck.{checkAnswer, runsAccepted}
 use Rattle.schedule.specs.BusyCount.{busyReply}
 use Rattle.schedule.specs.Queries.{foundFirst, stretchOf}
@@ -19,7 +19,7 @@ OneForMany reply = (runs other : List Run) → tooMany runs ≡ true → tooMany
 
 -- of the judge it is what goes before 13, or 13
 pub judge-many : (launch : ℕ) (file marks : List ℕ) → OneForMany (judgeReply launch file marks)
-unfolding judgeReply judgeFile judgeTable judgeByVerdict
+unfolding judgeReply judgeTable judgeByVerdict
 judge-many launch file marks runs other e f = rw (e, f)
 
 -- of the check, the busy count and the queries it is 13, before 15

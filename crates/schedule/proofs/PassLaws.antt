@@ -14,9 +14,10 @@ use Rattle.base.specs.Tests.{and}
 use Rattle.base.specs.Places.{placesFrom, places}
 use Rattle.base.proofs.TestLaws.{and-left, and-right, same-test}
 use Rattle.base.proofs.PlaceLaws.{left-start, left-step, left-end}
+use Rattle.base.specs.Sums.{total}
+use Rattle.base.specs.Members.{everyMember}
 use Rattle.schedule.specs.declared.Job.{Job}
 use Rattle.schedule.specs.declared.Run.{Run}
-use Rattle.schedule.specs.Runs.{everyRun, sumRuns}
 use Rattle.schedule.specs.Judging.{noneEmpty, followFrom, knownTasks, inWindows, totalOf}
 use Rattle.schedule.specs.Passing.{passes, runFits}
 
@@ -52,13 +53,13 @@ regroup a b c d e f g h i =
 -- the runs pass where the first does and the others after it
 pub passes-cons : (job : ℕ → Job) (n from : ℕ) (run : Run) (runs : List Run)
     → passes job n from (run ∷ runs) ≡ and (ltb (run .task) n) (and (runFits (job (run .task)) from (run .start) (run .end)) (passes job n (run .end) runs))
-unfolding passes runFits everyRun followFrom
+unfolding passes runFits everyMember followFrom
 passes-cons job n from run runs =
     regroup (ltb (run .start) (run .end)) (noneEmpty runs) (leb from (run .start)) (followFrom (run .end) runs) (ltb (run .task) n) (knownTasks n runs)
     (leb (job (run .task) .release) (run .start)) (leb (run .end) (job (run .task) .deadline)) (inWindows job runs)
 
 passes-none : (job : ℕ → Job) (n from : ℕ) → passes job n from [] ≡ true
-unfolding passes everyRun followFrom
+unfolding passes everyMember followFrom
 passes-none job n from = refl
 
 -- Before run i of `len` runs: those before it passed, the next may start at tick `from`, and the totals are those of the runs before it.
@@ -111,7 +112,6 @@ module _ (job : ℕ → Job) (n : ℕ) (at : ℕ → Run) (len : ℕ) (totals : 
   -- a run that fits, and its ticks added to its task's total
   pub passed-step : i < len → at i .task < n → n ≤ maxTasks → runFits (job (at i .task)) from (at i .start) (at i .end) ≡ true → at i .end < 2 ^ 32
       → PassedUpTo job n at len (set totals (at i .task) (getD totals (at i .task) 0 + (at i .end - at i .start))) (at i .end) (i + 1)
-  unfolding sumRuns
   passed-step l h m e w =
       let task : ℕ = at i .task in
       let rest : List Run = placesFrom at (i + 1) (len - (i + 1)) in
@@ -151,7 +151,6 @@ module _ (job : ℕ → Job) (n : ℕ) (at : ℕ → Run) (len : ℕ) (totals : 
   passed-all l = sym (passes-none job n from) ∙ (ap (passes job n from) (sym (left-end at len i l)) ∙ p .left)
 
   pub passed-totals : len ≤ i → (k : ℕ) → k < maxTasks → getD totals k 0 ≡ totalOf (places at len) k
-  unfolding sumRuns
   passed-totals l k b =
       let none : totalOf (placesFrom at i (len - i)) k ≡ 0 = ap (λ (runs : List Run). totalOf runs k) (left-end at len i l) in
       omega (arith, none, p .sums k b)

@@ -11,9 +11,9 @@ use borrow.Author.Tests.{leb-true, leb-false, ltb-true, ltb-false, le-leb, lt-le
 use Rattle.base.specs.Tests.{pick, and}
 use Rattle.base.proofs.TestLaws.{cases, both-absurd, and-true, and-left, and-right}
 use Rattle.schedule.specs.Ticks.{isTask, isOwned, oneIf, countBelow, ticksOf, sumBelow}
-use Rattle.base.specs.Members.{All, Any}
+use Rattle.base.specs.Members.{All, Any, everyMember}
 use Rattle.schedule.specs.declared.Run.{Run}
-use Rattle.schedule.specs.Runs.{everyRun, sumRuns, runHolds, ownerOf}
+use Rattle.schedule.specs.Runs.{runHolds, ownerOf}
 use Rattle.schedule.specs.Judging.{noneEmpty, followFrom, totalOf}
 use Rattle.schedule.proofs.TickLaws.{count-none, count-split}
 
@@ -52,22 +52,22 @@ run-count run (suc n) =
 
 -- every run of a list passes a test, said of each
 pub every-each : (test : Run → Bool) (P : Run → Type 0) → ((run : Run) → (test run ≡ true) ↔ P run) → (runs : List Run)
-    → (everyRun test runs ≡ true) ↔ All P runs
-unfolding everyRun
+    → (everyMember test runs ≡ true) ↔ All P runs
+unfolding everyMember
 every-each test P h [] = (λ e. tt, λ a. refl)
 every-each test P h (run ∷ runs) = (
-  λ e. (h run .0 (and-left (test run) (everyRun test runs) e), every-each test P h runs .0 (and-right (test run) (everyRun test runs) e)),
-  λ a. and-true (test run) (everyRun test runs) (h run .1 (a .0)) (every-each test P h runs .1 (a .1)),
+  λ e. (h run .0 (and-left (test run) (everyMember test runs) e), every-each test P h runs .0 (and-right (test run) (everyMember test runs) e)),
+  λ a. and-true (test run) (everyMember test runs) (h run .1 (a .0)) (every-each test P h runs .1 (a .1)),
 )
 
 -- where no run is empty, the first is not
 pub first-nonempty : (run : Run) (runs : List Run) → noneEmpty (run ∷ runs) ≡ true → run .start < run .end
-unfolding everyRun
+unfolding everyMember
 first-nonempty run runs e = ltb-true (run .start) (run .end) (and-left (ltb (run .start) (run .end)) (noneEmpty runs) e)
 
 -- and the rest are not
 pub rest-nonempty : (run : Run) (runs : List Run) → noneEmpty (run ∷ runs) ≡ true → noneEmpty runs ≡ true
-unfolding everyRun
+unfolding everyMember
 rest-nonempty run runs e = and-right (ltb (run .start) (run .end)) (noneEmpty runs) e
 
 -- in order, the first run starts where it may
@@ -178,7 +178,6 @@ module _ (test : Option ℕ → Bool) (fails : test none ≡ false) where
 ends-count : (from : ℕ) (runs : List Run) → noneEmpty runs ≡ true → followFrom from runs ≡ true
     → (i a b : ℕ) → All (λ run. run .task ≡ i → (a ≤ run .start) × (run .end ≤ b)) runs
     → (countBelow (λ tick. isTask i (ownerOf runs tick)) a ≡ 0) × (countBelow (λ tick. isTask i (ownerOf runs tick)) b ≡ totalOf runs i)
-unfolding sumRuns
 ends-count from [] ne fo i a b h = (free-count (isTask i) refl a, free-count (isTask i) refl b)
 ends-count from (run ∷ runs) ne fo i a b h =
     let p = own-count (isTask i) refl from run runs ne fo a in

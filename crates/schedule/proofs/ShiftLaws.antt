@@ -12,7 +12,7 @@ use lib.Dec.{leb, ltb, eqb}
 use lib.ListN.{getD}
 use borrow.Author.Tests.{leb-true, le-leb, lt-leb, ltb-true, lt-ltb, eqb-true, eq-eqb}
 use Rattle.base.specs.Tests.{pick}
-use Rattle.base.specs.Members.{All, Any}
+use Rattle.base.specs.Members.{All, Any, everyMember}
 use Rattle.base.proofs.TestLaws.{same-test}
 use Rattle.base.proofs.LowestLaws.{every-same}
 use Rattle.schedule.specs.declared.Job.{Job}
@@ -20,7 +20,7 @@ use Rattle.schedule.specs.declared.Run.{Run}
 use Rattle.schedule.specs.Jobs.{windowTicks, workOf}
 use Rattle.schedule.specs.Ticks.{Owner, isTask, countBelow, countBetween, sumBelow}
 use Rattle.schedule.specs.Runnings.{WindowHolds, got, Gets, Running, discards, Whole}
-use Rattle.schedule.specs.Runs.{everyRun, sumRuns, ownerOf, Together}
+use Rattle.schedule.specs.Runs.{sumRuns, ownerOf, Together}
 use Rattle.schedule.specs.Judging.{noneEmpty, followFrom, eachFollows, knownTasks, insideWindow, inWindows, totalOf, exactTotals}
 use Rattle.schedule.specs.Shifting.{laterRun, laterRuns}
 use Rattle.schedule.specs.LaterJobs.{laterJob, laterJobs, LaterOwner}
@@ -161,14 +161,13 @@ module _ (c : ℕ) where
 
   -- Runs that lie later pass a test where the runs pass another, and have the sum of a number that is another of the runs.
   every-shift : (test later : Run → Bool) → ((run : Run) → later (laterRun c run) ≡ test run) → (runs : List Run)
-      → everyRun later (laterRuns c runs) ≡ everyRun test runs
-  unfolding everyRun
+      → everyMember later (laterRuns c runs) ≡ everyMember test runs
+  unfolding everyMember
   every-shift test later same [] = refl
   every-shift test later same (run ∷ runs) = rw (same run, every-shift test later same runs)
 
   sum-shift : (number later : Run → ℕ) → ((run : Run) → later (laterRun c run) ≡ number run) → (runs : List Run)
       → sumRuns later (laterRuns c runs) ≡ sumRuns number runs
-  unfolding sumRuns
   sum-shift number later same [] = refl
   sum-shift number later same (run ∷ runs) = rw (same run, sum-shift number later same runs)
 

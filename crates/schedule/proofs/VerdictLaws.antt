@@ -14,6 +14,7 @@ use Rattle.base.specs.Lowest.{everyBelow}
 use Rattle.base.proofs.TestLaws.{cases, and-left, and-right}
 use Rattle.base.proofs.LowestLaws.{every-same}
 use Rattle.base.proofs.PlaceLaws.{places-at}
+use Rattle.base.specs.Members.{everyMember}
 use Rattle.clock.specs.Clock.{badLaunch}
 use Rattle.table.specs.declared.Table.{Table}
 use Rattle.table.specs.declared.Answer.the-variants.{Accepted}
@@ -25,9 +26,9 @@ use Rattle.schedule.specs.Jobs.{jobOf, jobAt, workOf, counts}
 use Rattle.schedule.specs.JobArrays.{noJob, jobArray}
 use Rattle.schedule.specs.Ticks.{countBelow}
 use Rattle.schedule.specs.declared.Run.{Run}
-use Rattle.schedule.specs.Runs.{everyRun, tooMany}
+use Rattle.schedule.specs.Runs.{tooMany}
 use Rattle.schedule.specs.Judging.{noneEmpty, followFrom, eachFollows, knownTasks, inWindows, totalOf, exactTotals, verdictByJobs, verdict}
-use Rattle.schedule.specs.Judging.{countMarked, keptCount, discardedCount, firstBadMark, judgeDeclined, judgeByVerdict, judgeTable, judgeFile, judgeReply, Acceptable}
+use Rattle.schedule.specs.Judging.{countMarked, keptCount, discardedCount, firstBadMark, judgeDeclined, judgeByVerdict, judgeTable, judgeReply, Acceptable}
 use Rattle.schedule.proofs.TickLaws.{count-same}
 use Rattle.schedule.proofs.JudgeLaws.{judge-sound}
 use Rattle.schedule.specs.Passing.{passes, verdictByPass}
@@ -49,7 +50,7 @@ pass-totals job n marks runs totals e m h =
 
 -- jobs that agree at the positions below n make the same conditions
 windows-same : (f g : ℕ → Job) (n : ℕ) → ((k : ℕ) → k < n → f k ≡ g k) → (runs : List Run) → knownTasks n runs ≡ true → inWindows f runs ≡ inWindows g runs
-unfolding everyRun
+unfolding everyMember
 windows-same f g n h [] e = refl
 windows-same f g n h (run ∷ runs) e =
     let task = ltb-true (run .task) n (and-left (ltb (run .task) n) (knownTasks n runs) e) in
@@ -130,13 +131,13 @@ module _ (launch : ℕ) (t : Table) (marks : List ℕ) (runs : List Run) where
 -- a refusal of reading is the judge's
 pub read-refused : (launch : ℕ) (file marks : List ℕ) (runs : List Run) → isAccepted (readAnswer file) ≡ false
     → judgeDeclined (numberOf (readAnswer file)) (placeOf (readAnswer file)) ≡ judgeReply launch file marks runs
-unfolding judgeReply judgeFile
+unfolding judgeReply
 read-refused launch file marks runs e = rw e
 
 -- on an accepted file the judge replies as on its table
 pub read-accepted : (launch : ℕ) (file marks : List ℕ) (runs : List Run) → readAnswer file ≡ Accepted
     → judgeTable launch (tableIn file) marks runs ≡ judgeReply launch file marks runs
-unfolding judgeReply judgeFile
+unfolding judgeReply
 read-accepted launch file marks runs e = rw e
 
 -- a reply that is the judge's is sound

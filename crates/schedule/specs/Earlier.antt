@@ -5,11 +5,12 @@ use mathlib.Core.List.{List}
 use Rattle.clock.specs.Clock.{releaseOffset, deadlineOffset}
 use Rattle.table.specs.declared.Table.{Table}
 use Rattle.table.specs.Tables.{taskAt}
+use Rattle.table.specs.Reading.{replyOnFile}
 use Rattle.schedule.specs.declared.Job.{Job}
 use Rattle.schedule.specs.declared.Judged.{Judged}
 use Rattle.schedule.specs.declared.Run.{Run}
 use Rattle.schedule.specs.Jobs.{jobBetween}
-use Rattle.schedule.specs.Judging.{verdictByJobs, judgeByVerdict, judgeFile}
+use Rattle.schedule.specs.Judging.{verdictByJobs, judgeDeclined, judgeByVerdict}
 
 -- the job at a position of a table
 unfoldable pub earlierJobAt : Table → ℕ → Job
@@ -20,4 +21,4 @@ earlierJobAt t k =
 -- the reply of judging: reading's refusals, then 11 and 13
 unfoldable pub earlierJudged : List ℕ → List ℕ → List Run → Judged
 earlierJudged file marks runs =
-    judgeFile (λ t. judgeByVerdict (verdictByJobs (earlierJobAt t) (t .count) marks runs) t marks runs) file
+    replyOnFile judgeDeclined (λ t. judgeByVerdict (verdictByJobs (earlierJobAt t) (t .count) marks runs) t marks runs) file

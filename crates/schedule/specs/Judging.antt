@@ -8,23 +8,23 @@ use lib.Dec.{leb, ltb, eqb}
 use lib.ListN.{length, getD}
 use Rattle.base.specs.Tests.{pick, and}
 use Rattle.base.specs.Lowest.{lowest, everyBelow}
+use Rattle.base.specs.Members.{everyMember}
 use Rattle.clock.specs.Clock.{badLaunch}
 use Rattle.table.specs.declared.Table.{Table}
 use Rattle.table.specs.Tables.{taskAt}
-use Rattle.table.specs.Answers.{numberOf, placeOf, isAccepted}
-use Rattle.table.specs.Reading.{tableIn, readAnswer}
+use Rattle.table.specs.Reading.{tableIn, replyOnFile}
 use Rattle.schedule.specs.declared.Job.{Job}
 use Rattle.schedule.specs.declared.Judged.{Judged}
 use Rattle.schedule.specs.Jobs.{jobAt, jobsOf, workOf}
 use Rattle.schedule.specs.Ticks.{countBelow}
 use Rattle.schedule.specs.declared.Run.{Run}
-use Rattle.schedule.specs.Runs.{everyRun, sumRuns, Together, tooMany}
+use Rattle.schedule.specs.Runs.{sumRuns, Together, tooMany}
 
 -- The five conditions of a yes, for the jobs of n positions.
 
 -- every start is below its end
 abbrev pub noneEmpty : List Run → Bool
-noneEmpty runs = everyRun (λ run. ltb (run .start) (run .end)) runs
+noneEmpty runs = everyMember (λ run. ltb (run .start) (run .end)) runs
 
 -- no run starts before the one listed before it ends; the first starts at tick `from` or later
 unfoldable pub followFrom : ℕ → List Run → Bool
@@ -37,14 +37,14 @@ eachFollows runs = followFrom 0 runs
 
 -- every task number is in the table
 abbrev pub knownTasks : ℕ → List Run → Bool
-knownTasks n runs = everyRun (λ run. ltb (run .task) n) runs
+knownTasks n runs = everyMember (λ run. ltb (run .task) n) runs
 
 -- a run is inside the window of a job, and every run of a list is inside its own
 abbrev pub insideWindow : Job → Run → Bool
 insideWindow job run = and (leb (job .release) (run .start)) (leb (run .end) (job .deadline))
 
 abbrev pub inWindows : (ℕ → Job) → List Run → Bool
-inWindows job runs = everyRun (λ run. insideWindow (job (run .task)) run) runs
+inWindows job runs = everyMember (λ run. insideWindow (job (run .task)) run) runs
 
 -- the ticks that the runs of task i total
 abbrev pub totalOf : List Run → ℕ → ℕ
@@ -98,14 +98,9 @@ unfoldable pub judgeTable : ℕ → Table → List ℕ → List Run → Judged
 judgeTable launch t marks runs =
     pick (badLaunch launch) (judgeDeclined 14 0) (judgeByVerdict (verdict launch t marks runs) t marks runs)
 
--- the reply on a file: reading's refusals, and else what `reply` says of its table
-unfoldable pub judgeFile : (Table → Judged) → List ℕ → Judged
-judgeFile reply file =
-    pick (isAccepted (readAnswer file)) (reply (tableIn file)) (judgeDeclined (numberOf (readAnswer file)) (placeOf (readAnswer file)))
-
 -- the reply of judging: reading's refusals, then 14, 11 and 13
 unfoldable pub judgeReply : ℕ → List ℕ → List ℕ → List Run → Judged
-judgeReply launch file marks runs = judgeFile (λ t. judgeTable launch t marks runs) file
+judgeReply launch file marks runs = replyOnFile judgeDeclined (λ t. judgeTable launch t marks runs) file
 
 -- what demand 2 asks of a keep list and runs that the judge accepts: the runs follow one another in time, none is empty, and list and runs together
 -- are a running of the table

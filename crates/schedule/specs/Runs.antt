@@ -1,9 +1,9 @@
 -- Run lists, the columns of numbers that a planner writes them in, the owner of ticks that a run list describes, and when a keep list and runs are together
 -- a running.
-use Prim.Native.Nat.{ℕ, _+_}
+use Prim.Native.Nat.{ℕ}
 use mathlib.Core.Path.{_≡_}
 use mathlib.Core.List.{List, [], _∷_, map}
-use mathlib.Core.Bool.{Bool, true}
+use mathlib.Core.Bool.{Bool}
 use mathlib.Core.Option.{none, some}
 use lib.Dec.{leb, ltb}
 use lib.ListN.{length, getD}
@@ -16,6 +16,7 @@ use Rattle.schedule.specs.Jobs.{workOf}
 use Rattle.schedule.specs.Ticks.{Owner}
 use Rattle.schedule.specs.Runnings.{got, RunningOf, Whole}
 use Rattle.base.specs.Members.{All}
+use Rattle.base.specs.Sums.{total}
 
 -- a run by its start, its end and its task, and the run of which every number is 0
 abbrev pub runOf : ℕ → ℕ → ℕ → Run
@@ -45,15 +46,9 @@ endsOf runs = map (λ run. run .end) runs
 abbrev pub tasksOf : List Run → List ℕ
 tasksOf runs = map (λ run. run .task) runs
 
--- every run of a list passes a test
-unfoldable pub everyRun : (Run → Bool) → List Run → Bool
-everyRun test [] = true
-everyRun test (run ∷ runs) = and (test run) (everyRun test runs)
-
 -- the sum of `number run` over the runs of a list
-unfoldable pub sumRuns : (Run → ℕ) → List Run → ℕ
-sumRuns number [] = 0
-sumRuns number (run ∷ runs) = number run + sumRuns number runs
+abbrev pub sumRuns : (Run → ℕ) → List Run → ℕ
+sumRuns number runs = total (map number runs)
 
 -- the run holds the tick
 abbrev pub runHolds : Run → ℕ → Bool

@@ -1,11 +1,11 @@
 // Jobs (the tasks of a table in ticks), runs, and the replies and answers of the calls that look at finished plans. The definitions of a running, of run
 // lists and of what these calls answer stand in specs/.
 ghost use mathlib.Core.Path.{_≡_};
+ghost use mathlib.Core.Bool.{false};
 ghost use Prim.Native.Nat.{ℕ, _≤_, _<_};
 ghost use lib.Dec.{ltb};
-ghost use Rattle.base.specs.Limits.{maxTasks, maxRuns, lastFrame, maxLaunch};
+ghost use Rattle.base.specs.Limits.{maxTasks, maxRuns, lastFrame, maxLaunch, badPeriod};
 ghost use Rattle.table.specs.Tables.{taskAt};
-ghost use Rattle.clock.specs.Clock.{LegalPeriod};
 ghost use Rattle.schedule.specs.RunCheck.{runsNumber, runsPlace};
 ghost use Rattle.schedule.specs.Queries.{foundNumber, foundPlace, isFound, runFound};
 ghost use Rattle.schedule.specs.Jobs.{jobOf, windowTicks};
@@ -174,7 +174,7 @@ pub fn too_many(runs: usize) -> bool
 // The task at a position, in ticks of the exact frame clock from a launch tick on.
 pub fn job_of(task: Task, launch: u32, p: u32, q: u32, position: u32) -> Job
     requires { ⌜ launch ≤ maxLaunch ⌝ }
-    requires { ⌜ LegalPeriod p q ⌝ }
+    requires { ⌜ badPeriod p q ≡ false ⌝ }
     requires { ⌜ (task .release ≤ lastFrame) × (task .deadline ≤ lastFrame) ⌝ }
     ensures { λ r. ⌜ r ≡ jobOf launch p q position task ⌝ }
 {
@@ -201,7 +201,7 @@ pub fn window_ticks(job: Job) -> u32
 pub fn jobs_of(table: Table, launch: u32) -> [Job; MAX_TASKS]
     requires { ⌜ table .count ≤ maxTasks ⌝ }
     requires { ⌜ launch ≤ maxLaunch ⌝ }
-    requires { ⌜ LegalPeriod (table .p) (table .q) ⌝ }
+    requires { ⌜ badPeriod (table .p) (table .q) ≡ false ⌝ }
     requires { ⌜ ((k : ℕ) → k < table .count → (taskAt table k .release ≤ lastFrame) × (taskAt table k .deadline ≤ lastFrame)) ⌝ }
     ensures { λ r. ⌜ r ≡ jobArray launch table ⌝ }
 {

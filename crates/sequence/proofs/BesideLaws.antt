@@ -13,7 +13,7 @@ use Rattle.base.specs.Tests.{pick}
 use Rattle.base.proofs.TestLaws.{pick-true, pick-false, pick-cases, same-test}
 use Rattle.schedule.specs.declared.Job.{Job}
 use Rattle.schedule.specs.Jobs.{counts, workWith}
-use Rattle.choice.specs.Choice.{total, keepNone, keptWorth, countOne}
+use Rattle.choice.specs.Choice.{keepNone, keptWorth, countOne}
 use Rattle.choice.specs.Programme.{mandatorySum}
 use Rattle.choice.specs.Decisions.{hugeTicks}
 use Rattle.sequence.specs.InOrder.{startsAt, finish, fitsInOrder}
@@ -249,7 +249,6 @@ module _ (job : Job) (before from room : ℕ) (small : job .deadline < hugeTicks
 module _ (job : Job) (jobs : List Job) where
   -- the mandatory ticks of all
   pub sum-cons : mandatorySum (job ∷ jobs) ≡ mandatorySum jobs + job .mandatory
-  unfolding total
   sum-cons = omega arith
 
   -- without a part it is the same to keep the job and to discard it

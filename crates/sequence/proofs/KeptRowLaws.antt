@@ -21,7 +21,7 @@ use Rattle.schedule.specs.declared.Job.{Job}
 use Rattle.schedule.specs.Jobs.{workWith}
 use Rattle.schedule.specs.JobArrays.{Bounded}
 use Rattle.base.specs.Members.{All}
-use Rattle.choice.specs.Choice.{total, keepNone, countOne, kept, discarded}
+use Rattle.choice.specs.Choice.{keepNone, countOne, kept, discarded}
 use Rattle.choice.specs.Programme.{mandatorySum, allWorth, greatest}
 use Rattle.choice.specs.Decisions.{rowPlaces, hugeTicks, jobsFrom}
 use Rattle.choice.proofs.FitLaws.{worth-split}
@@ -68,7 +68,7 @@ blank-array size k l = getD-replicate size k hugeTicks 0 (omega (arith, length-r
 -- the row of no job
 none-row : (rows : List ℕ) (count v : ℕ) → Blank rows → RoomFor count (length rows) → count ≤ maxTasks → v ≤ count
     → getD (set rows (rowPlaces * count) 0) (rowPlaces * count + v) 0 ≡ beside (mandatorySum []) (earliestOf [] v)
-unfolding earliest total
+unfolding earliest
 none-row rows count zero b room m l =
     let e : rowPlaces * count + 0 ≡ rowPlaces * count = omega arith in
     rw (e, beside-below 0 0 (omega arith)) (getD-set-same rows (rowPlaces * count) 0 0 (omega (arith, room .0)))
@@ -80,7 +80,7 @@ module _ (at : ℕ → Job) (count : ℕ) (small : count ≤ maxTasks) where
   -- only the row of no job stands there
   pub built-start : (rows : List ℕ) → Blank rows → RoomFor count (length rows)
       → Built (length (set rows (rowPlaces * count) 0)) at count count (set rows (rowPlaces * count) 0) 0 0
-  unfolding total greatest
+  unfolding greatest
   built-start rows blank room =
       let none = left-end at count count (omega arith) in
       record {
@@ -202,12 +202,10 @@ pub record Counted (at : ℕ → Job) (count i parts : ℕ) : Type 0 where
 module _ (at : ℕ → Job) (count : ℕ) where
   -- none is counted yet
   pub counted-start : Counted at count count 0
-  unfolding total
   counted-start = record { within-is = omega arith; parts-are = rw (left-end at count count (omega arith)); parts-most = omega arith }
 
   -- one job more
   pub counted-step : (i parts worth : ℕ) → Counted at count (i + 1) parts → worth ≡ countOne (at i) → Counted at count i (parts + worth)
-  unfolding total
   counted-step i parts worth f e =
       record {
         within-is = omega (arith, f .within-is);

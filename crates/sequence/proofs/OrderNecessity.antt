@@ -12,7 +12,7 @@ use Rattle.base.specs.Arrays.{Distinct}
 use Rattle.schedule.specs.Runnings.{Gets, Running, Whole}
 use Rattle.base.proofs.MemberLaws.{all-map}
 use Rattle.schedule.specs.Jobs.{workWith}
-use Rattle.choice.specs.Choice.{total, worksOf}
+use Rattle.choice.specs.Choice.{worksOf}
 use Rattle.choice.specs.KeepLists.{totalWork}
 use Rattle.placement.specs.Chains.{Between, positions}
 use Rattle.placement.proofs.Necessity.{isKept, marksOf, work-fits}
@@ -52,7 +52,7 @@ pub finish-later : (owner : Owner) (jobs later : List Job) (b : ℕ) → Ordered
     → All (Before later) jobs → All (λ job. job .deadline ≤ b) jobs → All (λ job. job .deadline ≤ b) later
     → All (Gets Whole owner) jobs → All (Gets Whole owner) later
     → finish jobs (marksOf jobs owner) + totalWork later (marksOf later owner) ≤ b
-unfolding finish total worksOf
+unfolding finish worksOf
 finish-later owner [] later b o d e f a c g h = omega (arith, work-fits owner later 0 b e (from-zero later b c) h)
 finish-later owner (job ∷ jobs) later b o d e f a c g h =
     let w = workWith job (isKept owner job) in
@@ -77,7 +77,7 @@ before-one job (other ∷ jobs) d o = (((λ e. d .0 (sym e), o .0 .0), tt), befo
 -- the marks read off fit
 marks-in-order : (owner : Owner) (jobs : List Job) → Ordered jobs → Distinct (positions jobs) → All (Gets Whole owner) jobs
     → fitsInOrder jobs (marksOf jobs owner) ≡ true
-unfolding fitsInOrder total worksOf
+unfolding fitsInOrder worksOf
 marks-in-order owner [] o d g = refl
 marks-in-order owner (job ∷ jobs) o d g =
     let w = workWith job (isKept owner job) in

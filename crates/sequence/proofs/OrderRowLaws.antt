@@ -12,7 +12,7 @@ use borrow.Author.Tests.{leb-true, leb-false, le-leb, lt-leb, lt-ltb}
 use Rattle.base.proofs.TestLaws.{both-absurd, pick-true, pick-false, pick-cases, picked}
 use Rattle.schedule.specs.declared.Job.{Job}
 use Rattle.schedule.specs.Jobs.{workWith}
-use Rattle.choice.specs.Choice.{total, discardMarks, keptWorth}
+use Rattle.choice.specs.Choice.{discardMarks, keptWorth}
 use Rattle.choice.specs.KeepLists.{ZeroKept}
 use Rattle.choice.specs.Programme.{mandatorySum, allWorth}
 use Rattle.choice.proofs.LexLaws.{LexAtMost}
@@ -268,7 +268,7 @@ module _ (worth : Job → ℕ) (huge : ℕ) where
 
   -- beyond the worth of all optional parts a row is huge or above
   earliest-beyond : (jobs : List Job) (v : ℕ) → allWorth worth jobs < v → huge ≤ earliest worth huge jobs v
-  unfolding earliest total
+  unfolding earliest
   earliest-beyond [] zero l = absurd (omega arith)
   earliest-beyond [] (suc v) l = omega arith
   earliest-beyond (job ∷ jobs) v l = next-beyond job jobs (allWorth worth jobs) (earliest-beyond jobs) v l
@@ -291,7 +291,7 @@ module _ (worth : Job → ℕ) (huge : ℕ) where
 
   -- a number of a row has time for all mandatory ticks, or is huge
   pub earliest-mandatory : (jobs : List Job) (v : ℕ) → min (mandatorySum jobs) huge ≤ earliest worth huge jobs v
-  unfolding earliest total keepingEnd discardingEnd
+  unfolding earliest keepingEnd discardingEnd
   earliest-mandatory [] zero = omega arith
   earliest-mandatory [] (suc v) = omega arith
   earliest-mandatory (job ∷ jobs) v =

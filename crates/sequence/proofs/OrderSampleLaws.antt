@@ -3,7 +3,7 @@ use mathlib.Core.Path.{_≡_, refl}
 use mathlib.Core.List.{[], _∷_}
 use mathlib.Core.Bool.{true, false}
 use Rattle.base.specs.Members.{All}
-use Rattle.choice.specs.Choice.{total, better, best, bestList, keepLists, keptWorth, keptTicks, lexLess, discardedWorth, countOne, discarded}
+use Rattle.choice.specs.Choice.{better, best, bestList, keepLists, keptWorth, keptTicks, lexLess, discardedWorth, countOne, discarded}
 use Rattle.choice.specs.Programme.{greatest}
 use Rattle.choice.specs.ChoiceSamples.{job}
 use Rattle.placement.specs.Placing.{latestFirst}
@@ -19,7 +19,7 @@ order-samples = ((refl, refl), ((refl, refl), ((refl, refl), ((refl, refl), ((re
 
 -- So do the rows.
 pub order-row-samples : All (λ sample. chosenByRows countOne 1000 (sample .jobs) ≡ sample .marks) orderSamples
-unfolding endsAt inTime ending boundBefore keepingEnd discardingEnd earliest readBack chosenByRows total greatest
+unfolding endsAt inTime ending boundBefore keepingEnd discardingEnd earliest readBack chosenByRows greatest
 order-row-samples = (refl, (refl, (refl, (refl, (refl, tt)))))
 
 -- The first late job is named by its position, also where a later one is late too, and a job without mandatory ticks is passed over.

@@ -15,7 +15,7 @@ use denote.Enum.Declared.{tagOf}
 use Rattle.table.specs.declared.Answer.{Answer}
 use Rattle.table.specs.declared.Answer.the-variants.{Accepted, Short, Count, Long, Padding, Period, Window, Kind}
 use Rattle.table.specs.declared.Written.{Written}
-use Rattle.table.specs.Answers.{numberOf, placeOf, isAccepted, firstRefusal, refusedAt, declined}
+use Rattle.table.specs.Answers.{numberOf, placeOf, isAccepted, firstRefusal, lowestRefusal, declined}
 use Rattle.table.proofs.Answer.{the-type}
 
 -- the tag of a case that is not `Accepted`
@@ -95,11 +95,11 @@ reply-known a r e =
     (λ f. absurd (eqb-false (numberOf a) 0 (refused-number a f) (rw f at e)))
 
 -- where no position passes the test, nothing is refused
-pub none-refused : (refusal : ℕ → Answer) (test : ℕ → Bool) (n : ℕ) → ((k : ℕ) → k < n → test k ≡ false) → refusedAt refusal test n ≡ Accepted
+pub none-refused : (refusal : ℕ → Answer) (test : ℕ → Bool) (n : ℕ) → ((k : ℕ) → k < n → test k ≡ false) → lowestRefusal refusal test n ≡ Accepted
 none-refused refusal test n h = rw (le-ltb (lowest test n) n (omega (arith, none-passes test n h)))
 
 -- where nothing is refused, no position passes the test
-pub refused-none : (refusal : ℕ → Answer) → ((k : ℕ) → isAccepted (refusal k) ≡ false) → (test : ℕ → Bool) (n : ℕ) → refusedAt refusal test n ≡ Accepted
+pub refused-none : (refusal : ℕ → Answer) → ((k : ℕ) → isAccepted (refusal k) ≡ false) → (test : ℕ → Bool) (n : ℕ) → lowestRefusal refusal test n ≡ Accepted
     → (k : ℕ) → k < n → test k ≡ false
 refused-none refusal is test n e k l =
     cases (ltb (lowest test n) n)
@@ -107,12 +107,12 @@ refused-none refusal is test n e k l =
     (λ f. before test n k (omega (arith, ltb-false (lowest test n) n f)))
 
 -- tests that agree refuse the same
-pub refused-same : (refusal : ℕ → Answer) (f g : ℕ → Bool) (n : ℕ) → ((k : ℕ) → k < n → f k ≡ g k) → refusedAt refusal f n ≡ refusedAt refusal g n
+pub refused-same : (refusal : ℕ → Answer) (f g : ℕ → Bool) (n : ℕ) → ((k : ℕ) → k < n → f k ≡ g k) → lowestRefusal refusal f n ≡ lowestRefusal refusal g n
 refused-same refusal f g n h = rw (same f g n h)
 
 -- what a search for such a position answers
-pub found-refuses : (refusal : ℕ → Answer) (test : ℕ → Bool) (n k : ℕ) → k ≡ lowest test n → k < n → refusal k ≡ refusedAt refusal test n
+pub found-refuses : (refusal : ℕ → Answer) (test : ℕ → Bool) (n k : ℕ) → k ≡ lowest test n → k < n → refusal k ≡ lowestRefusal refusal test n
 found-refuses refusal test n k e l = rw (← e, lt-ltb k n l)
 
-pub not-found : (refusal : ℕ → Answer) (test : ℕ → Bool) (n k : ℕ) → k ≡ lowest test n → n ≤ k → Accepted ≡ refusedAt refusal test n
+pub not-found : (refusal : ℕ → Answer) (test : ℕ → Bool) (n k : ℕ) → k ≡ lowest test n → n ≤ k → Accepted ≡ lowestRefusal refusal test n
 not-found refusal test n k e l = rw (← e, le-ltb k n l)

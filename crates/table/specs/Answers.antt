@@ -47,8 +47,8 @@ abbrev pub firstRefusal : Answer → Answer → Answer
 firstRefusal first second = pick (isAccepted first) second first
 
 -- the refusal that names the lowest position below n that passes a test; where none does, nothing is refused
-abbrev pub refusedAt : (ℕ → Answer) → (ℕ → Bool) → ℕ → Answer
-refusedAt refusal test n = pick (ltb (lowest test n) n) (refusal (lowest test n)) Accepted
+abbrev pub lowestRefusal : (ℕ → Answer) → (ℕ → Bool) → ℕ → Answer
+lowestRefusal refusal test n = pick (ltb (lowest test n) n) (refusal (lowest test n)) Accepted
 
 -- the reply of a call that writes bytes (writing, moving, a table as text) where it refuses, and the one that reports bytes written: parts that are not named
 -- are 0

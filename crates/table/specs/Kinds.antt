@@ -8,7 +8,7 @@ use Rattle.table.specs.declared.Table.{Table}
 use Rattle.table.specs.declared.Answer.{Answer}
 use Rattle.table.specs.declared.Answer.the-variants.{Window, Kind}
 use Rattle.table.specs.Tables.{taskAt}
-use Rattle.table.specs.Answers.{firstRefusal, refusedAt}
+use Rattle.table.specs.Answers.{firstRefusal, lowestRefusal}
 use Rattle.table.specs.Windows.{badWindow, nested, similar}
 
 -- the task at position k fails a test of pairs with some earlier one
@@ -33,11 +33,11 @@ ofNeitherKind at k = and (not (pairwise nested at (suc k))) (not (pairwise simil
 
 -- 6 for the lowest position below n whose window is bad
 unfoldable pub badWindowAnswer : (ℕ → Task) → ℕ → Answer
-badWindowAnswer at n = refusedAt Window (λ k. badWindow (at k)) n
+badWindowAnswer at n = lowestRefusal Window (λ k. badWindow (at k)) n
 
 -- 7 for 'the lowest position such that the table cut after it is of neither kind'
 unfoldable pub kindAnswer : (ℕ → Task) → ℕ → Answer
-kindAnswer at n = refusedAt Kind (ofNeitherKind at) n
+kindAnswer at n = lowestRefusal Kind (ofNeitherKind at) n
 
 -- what the windows of the first n tasks answer: 6, and else 7
 unfoldable pub windowsAnswer : (ℕ → Task) → ℕ → Answer
@@ -49,4 +49,4 @@ tableWindowsAnswer t = windowsAnswer (taskAt t) (t .count)
 
 -- 7 as document 01 has it, for readers and planners of nested tables alone, which are to come: the lowest position that is not nested with some earlier one
 unfoldable pub nestingAnswer : (ℕ → Task) → ℕ → Answer
-nestingAnswer at n = refusedAt Kind (failsEarlier nested at) n
+nestingAnswer at n = lowestRefusal Kind (failsEarlier nested at) n

@@ -13,8 +13,8 @@ use Rattle.table.specs.declared.Task.{Task}
 use Rattle.table.specs.declared.Table.{Table}
 use Rattle.table.specs.declared.Written.{Written}
 use Rattle.table.specs.Tables.{taskAt, tableOf}
-use Rattle.table.specs.Answers.{numberOf, placeOf, isAccepted, declined, wrote}
-use Rattle.table.specs.Reading.{readAnswer, tableIn}
+use Rattle.table.specs.Answers.{declined, wrote}
+use Rattle.table.specs.Reading.{tableIn, replyOnFile}
 use Rattle.table.specs.Writing.{fileOf}
 
 -- a frame moved by a number of frames, which may lie below 0
@@ -56,10 +56,11 @@ movedTable shift t = tableOf (t .count) (t .p) (t .q) (λ k. movedTask shift (ta
 -- the reply of moving a file into a list of `room` bytes: reading's refusals, then 10, then 9
 unfoldable pub moveReply : List ℕ → ℤ → ℕ → Written
 moveReply s shift room =
-    pick (isAccepted (readAnswer s))
-    (pick (ltb (firstOutside shift (tableIn s)) (tableIn s .count)) (declined 10 (firstOutside shift (tableIn s)))
+    replyOnFile declined
+    (λ t.
+    pick (ltb (firstOutside shift t) (t .count)) (declined 10 (firstOutside shift t))
     (pick (ltb room (length s)) (declined 9 0) (wrote (length s))))
-    (declined (numberOf (readAnswer s)) (placeOf (readAnswer s)))
+    s
 
 -- what a lent list holds after moving a file: the file of the moved table, and then what stood there beyond it
 unfoldable pub movedOver : List ℕ → ℤ → List ℕ → List ℕ

@@ -7,12 +7,13 @@ use native.Mathlib.Omega.{arith}
 use native.Mathlib.Decide.{decLt}
 use lib.ListN.{length, getD, List·getD-eq-default}
 use borrow.Author.Tests.{le-ltb, le-leb, lt-leb, eq-eqb}
-use Rattle.base.specs.Members.{All}
+use Rattle.base.specs.Members.{All, everyMember}
 use Rattle.base.specs.Places.{places}
 use Rattle.base.proofs.LowestLaws.{none-passes}
 use Rattle.base.proofs.ListLaws.{map-places}
 use Rattle.base.proofs.MemberLaws.{all-places}
 use Rattle.base.proofs.PlaceLaws.{places-at, places-length}
+use Rattle.base.proofs.PeriodLaws.{period-known}
 use Rattle.bits.specs.Bits.{Bytes}
 use Rattle.lines.specs.Text.{line}
 use Rattle.lines.specs.Splitting.{cutAt, nonempty, linesOf, wordsOf, allNumbers, numbersOf}
@@ -25,7 +26,6 @@ use Rattle.table.specs.Tables.{taskAt, tableOf, taskRow, taskOf, Same}
 use Rattle.table.specs.Reading.{countIn, pIn, qIn, taskIn, tableIn, readAnswer}
 use Rattle.table.specs.Writing.{fileOf, Legal}
 use Rattle.table.proofs.TableLaws.{tableOf-same, tableOf-canonical, tableOf-tasks}
-use Rattle.table.proofs.RowFiles.{period-known}
 use Rattle.table.proofs.FileLaws.{Narrow, narrow-known, legal-count}
 use Rattle.table.proofs.RoundTrip.{read-legal, read-again}
 use Rattle.table_text.specs.TableText.{lineAt, numbersAt, countInText, pInText, qInText, due, lineWrong, linesChecked, rightLines, tableInText, rightTable, parseReply, headLine, taskLine, taskLines, tableText}
@@ -105,7 +105,7 @@ module _ (t : Table) (head : Small (t .count ∷ t .p ∷ t .q ∷ [])) (tasks :
 
   -- no line is wrong
   lines-right : (k : ℕ) → lineWrong (tableText t) (suc k) ≡ false
-  unfolding due wordsOf numbersOf nonempty cutAt allNumbers
+  unfolding due wordsOf numbersOf nonempty cutAt everyMember
   lines-right zero =
       line-right (tableText t) 1 _ _ line-head (content-right (t .count) (t .p ∷ t .q ∷ []) head) (content-numbers (t .count) (t .p ∷ t .q ∷ []) head) refl
   lines-right (suc k) =

@@ -7,8 +7,8 @@ use lib.ListN.{length, take}
 use Rattle.base.specs.Tests.{pick}
 use Rattle.base.specs.Lent.{contentAfter}
 use Rattle.table.specs.declared.Written.{Written}
-use Rattle.table.specs.Answers.{numberOf, placeOf, isAccepted, declined, wrote}
-use Rattle.table.specs.Reading.{tableIn, readAnswer}
+use Rattle.table.specs.Answers.{declined, wrote}
+use Rattle.table.specs.Reading.{tableIn, replyOnFile}
 use Rattle.table.specs.Writing.{fileOf, writeReply, writtenOver}
 use Rattle.table_text.specs.declared.FromText.{FromText}
 use Rattle.table_text.specs.TableText.{parseReply, rightTable, tableText, maxTableText}
@@ -18,10 +18,7 @@ use Rattle.table_text.specs.TableText.{parseReply, rightTable, tableText
 -- the reply, for a list of `room` bytes: reading's refusals, then 9 for a list that is shorter than the bound of every text, and else the bytes of the
 -- text
 unfoldable pub textReply : List ℕ → ℕ → Written
-textReply file room =
-    pick (isAccepted (readAnswer file))
-    (pick (ltb room maxTableText) (declined 9 0) (wrote (length (tableText (tableIn file)))))
-    (declined (numberOf (readAnswer file)) (placeOf (readAnswer file)))
+textReply file room = replyOnFile declined (λ t. pick (ltb room maxTableText) (declined 9 0) (wrote (length (tableText t)))) file
 
 -- what the list holds then: a refusal leaves it as it was
 unfoldable pub textOver : List ℕ → List ℕ → List ℕ

@@ -10,7 +10,7 @@ use lib.ListN.{length, getD, replicate, length-append, length-map, set}
 use lib.Seq.{set-append-seam}
 use borrow.Author.Tests.{leb-true, ltb-false, le-leb, lt-ltb, le-ltb, ne-eqb, not-false}
 use Rattle.base.specs.Tests.{and}
-use Rattle.base.specs.Members.{All}
+use Rattle.base.specs.Members.{All, everyMember}
 use Rattle.base.proofs.TestLaws.{cases, and-left, and-right, pick-cases, both-absurd, or-left}
 use Rattle.lines.specs.Splitting.{isBlank, isDigit, cutAt, nonempty, wordsOf, valueAfter, valueOf, allDigits, maxNumber, isNumber, allNumbers, numbersOf}
 use Rattle.lines.proofs.DecimalLaws.{value-grows}
@@ -65,7 +65,7 @@ digit-read numbers reading value byte e h = rw (e, le-ltb 99_999_999 value h)
 -- Over a word that is a number, its value is read.
 digits-read : (numbers : List ℕ) (reading : Bool) (value byte : ℕ) (bytes : List ℕ) → allDigits (byte ∷ bytes) ≡ true
     → valueAfter value (byte ∷ bytes) ≤ maxNumber → foldl withByte (lineWith numbers reading value) (byte ∷ bytes) ≡ lineWith numbers true (valueAfter value (byte ∷ bytes))
-unfolding allDigits valueAfter
+unfolding everyMember valueAfter
 digits-read numbers reading value byte [] e h =
     digit-read numbers reading value byte (and-left (isDigit byte) true e) (omega arith)
 digits-read numbers reading value byte (next ∷ bytes) e h =
@@ -77,7 +77,7 @@ digits-read numbers reading value byte (next ∷ bytes) e h =
 -- Over a word that is none, the line gets a fault.
 word-faulty : (numbers : List ℕ) (reading : Bool) (value : ℕ) (word : List ℕ) → Plain isBlank word → value ≤ maxNumber
     → and (allDigits word) (leb (valueAfter value word) maxNumber) ≡ false → foldl withByte (lineWith numbers reading value) word .bad ≡ true
-unfolding allDigits valueAfter withByte withDigit withFault
+unfolding everyMember valueAfter withByte withDigit withFault
 word-faulty numbers reading value [] plain h e = both-absurd (leb value maxNumber) (le-leb value maxNumber h) e
 word-faulty numbers reading value (byte ∷ word) plain h e =
     cases (isDigit byte)
@@ -116,7 +116,7 @@ record Read (numbers : List ℕ) (words : List (List ℕ)) (l : Line) : Type 0 w
 
 -- a word that is a number, and there is room for it
 word-right : (numbers word : List ℕ) (words : List (List ℕ)) (l : Line) → isNumber word ≡ true → Read (numbers ++ valueOf word ∷ []) words l → Read numbers (word ∷ words) l
-unfolding allNumbers
+unfolding everyMember
 word-right numbers word words l e h =
     let one : length (numbers ++ valueOf word ∷ []) ≡ length numbers + 1 = length-append numbers (valueOf word ∷ []) in
     record {
@@ -128,7 +128,7 @@ word-right numbers word words l e h =
 -- a word that is none, or for which there is no room
 word-wrong : (numbers word : List ℕ) (words : List (List ℕ)) (l : Line) → (isNumber word ≡ true → 4 ≤ length numbers) → l .bad ≡ true
     → Read numbers (word ∷ words) l
-unfolding allNumbers
+unfolding everyMember
 word-wrong numbers word words l h e =
     record {
       right = λ a m. absurd (omega (arith, h (and-left (isNumber word) (allNumbers words) a)));
@@ -154,7 +154,7 @@ wrong-over numbers word plain e = bad-number _ (word-faulty numbers false 0 word
 -- over the pieces between blanks
 words-read : (numbers : List ℕ) (pieces : List (List ℕ)) → length numbers ≤ 4 → All (Plain isBlank) pieces
     → Read numbers (nonempty pieces) (foldl overWord (lineWith numbers false 0) pieces)
-unfolding nonempty allNumbers withNumber
+unfolding nonempty everyMember withNumber
 words-read numbers [] h plain =
     record { right = λ a m. rw (append-nil numbers); wrong = λ a. both-absurd true refl a; many = λ m. absurd (omega arith) }
 words-read numbers ([] ∷ pieces) h plain = words-read numbers pieces h (plain .1)

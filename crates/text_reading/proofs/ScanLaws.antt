@@ -17,6 +17,7 @@ use Rattle.base.proofs.TestLaws.{cases, pick-cases, both-absurd, and-true, and-
 use Rattle.base.proofs.MemberLaws.{all-at}
 use Rattle.base.proofs.PlaceLaws.{places-at, places-length, places-is}
 use Rattle.base.proofs.ArrayFilling.{Filled, filled-set, filled-skip, filled-whole}
+use Rattle.base.specs.Members.{everyMember}
 use Rattle.lines.specs.Text.{newline}
 use Rattle.lines.specs.Splitting.{cutAt, nonempty, linesOf, wordsOf, allNumbers, numbersOf}
 use Rattle.lines.proofs.SplitLaws.{isNewline, Plain, cut-plain, last-at, cut-over}
@@ -77,7 +78,7 @@ due-none k count e =
 
 -- an empty line is right only there
 empty-right : (k count : ℕ) (line : List ℕ) → line ≡ [] → wrongAs k count line ≡ false → count + 1 < k
-unfolding numbersOf wordsOf allNumbers nonempty cutAt
+unfolding numbersOf wordsOf everyMember nonempty cutAt
 empty-right k count line none e = due-none k count (eqb-true 0 (due k count) (not-false (eqb 0 (due k count)) (rw none at e)))
 
 module _ (text : List ℕ) where

@@ -13,7 +13,7 @@ use Rattle.base.proofs.PlaceLaws.{left-start, left-step, left-end}
 use Rattle.schedule.specs.declared.Run.{Run}
 use Rattle.schedule.specs.declared.RunsAnswer.{RunsAnswer}
 use Rattle.schedule.specs.declared.RunsAnswer.the-variants as checked
-use Rattle.schedule.specs.Runs.{runAtIndex, runsOf, sumRuns}
+use Rattle.schedule.specs.Runs.{runAtIndex, runsOf}
 use Rattle.schedule.specs.RunCheck.{checkAnswer, runsNumber, runsPlace, runsAccepted}
 use Rattle.schedule.specs.BusyCount.{shared, busySum, busyReply}
 use Rattle.schedule.proofs.BusyLaws.{sum-most}
@@ -40,13 +40,13 @@ module _ (starts ends tasks : List ℕ) (a b : ℕ) where
       r ≡ shared a b (record { start = getD starts i 0; end = getD ends i 0; task = 0 }) →
       Counted ticks i →
       Counted (ticks + r) (i + 1)
-  unfolding sumFrom runAtIndex shared sumRuns
+  unfolding sumFrom runAtIndex shared
   sum-step ticks i r l e h =
       let left = rw (left-step (runAtIndex starts ends tasks) (length starts) i l) at h in
       omega arith
 
   sum-end : (ticks i : ℕ) → length starts ≤ i → Counted ticks i → ticks ≡ busySum a b (runsOf starts ends tasks)
-  unfolding sumFrom sumRuns
+  unfolding sumFrom
   sum-end ticks i l h =
       let none = rw (left-end (runAtIndex starts ends tasks) (length starts) i l) at h in
       omega arith

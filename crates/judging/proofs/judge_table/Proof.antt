@@ -16,7 +16,7 @@ use Rattle.schedule.specs.JobArrays.{noJob}
 use Rattle.schedule.specs.Runs.{tooMany, runsOf}
 use Rattle.schedule.specs.Judging.{verdict, firstBadMark, judgeDeclined}
 use Rattle.schedule.proofs.ColumnLaws.{columns-many}
-use Rattle.schedule.proofs.JobLaws.{legal-period, legal-frames}
+use Rattle.schedule.proofs.JobLaws.{legal-frames}
 use Rattle.schedule.proofs.VerdictLaws.{pass-verdict, jobs-at, marked-same, launch-refused, length-refused, mark-refused, runs-refused, says-yes, says-no}
 use Rattle.judging.proofs.judge_table.Statement.{statement}
 use Rattle.judging.proofs.judge_table.Tie as tie
@@ -99,7 +99,7 @@ jobs-of-requires : tie.Need-jobs-of-requires
 jobs-of-requires c κs =
     let t = c .before .before .before .before .before .before .before .before .before .before .before .before .args .table in
     let l = c .before .before .before .before .before .before .before .before .before .before .before .before .pre .0 in
-    (legal-count l .1, (ltb-false maxLaunch _ (accepted (c .before .before .before .before .before .before)), (legal-period t l, legal-frames t l)))
+    (legal-count l .1, (ltb-false maxLaunch _ (accepted (c .before .before .before .before .before .before)), (l .timed, legal-frames t l)))
 
 verdict-of-requires : tie.Need-verdict-of-requires
 verdict-of-requires c κs =

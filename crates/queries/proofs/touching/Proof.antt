@@ -1,5 +1,5 @@
 -- `queries::touching` meets its contract: a walk of its code, step by step. All that the proof knows of what it calls is that it meets its contract.
-use mathlib.Core.Path.{_≡_, refl, sym, _∙_, ap, subst}
+use mathlib.Core.Path.{_≡_, refl, sym, ap, subst}
 use Prim.Native.Nat.{ℕ, _≤_}
 use mathlib.Core.List.{List, [], _∷_}
 use lib.ListN.{length}
@@ -38,11 +38,12 @@ use denote.Triple.Walked.{says, Stays, stay-none, stay-none-slice, walkOf, goes-
 use denote.Exit.{yes}
 use Rattle.records.proofs.Walking.{spot, value, returned, says-both}
 use Rattle.records.proofs.ColumnsCall.{lent, Own, said, First, twice, calls-columns}
+use Rattle.schedule.specs.LentRuns.{BeginsAt}
 use Rattle.schedule.specs.Queries.{stretchOf}
 use Rattle.records.specs.RecordColumns.{copiedRuns, LegalColumns}
 use Rattle.records.proofs.CopyLaws.{columns-legal}
 use Rattle.queries.specs.StretchBounds.{boundsOf, runsBetween}
-use Rattle.queries.proofs.BoundsLaws.{bounds-within, bounds-touching, stretch-unbroken}
+use Rattle.queries.proofs.BoundsLaws.{bounds-are, bounds-within, stretch-replied, stretch-unbroken}
 use Rattle.schedule.specs.declared.Run.{Run}
 use Rattle.schedule.proofs.Run as mRun
 use Rattle.records.specs.declared.RunColumns.{RunColumns}
@@ -98,8 +99,8 @@ module _ {M : Type 1} (𝓤 : URA M) (H : Heap 𝓤) (A : Atoms 𝓤) (W : Given
   goes-k : (t : Bounds) → Is usize (t .from) (vint w64 (t .from) ∷ []) → Is usize (t .to) (vint w64 (t .to) ∷ []) → (t .from ≤ t .to) × (t .to ≤ length (runs .now)) → ent 𝓤 (⋆ 𝓤 H A ((‵ (flft κ q) ⊛ ‵ ftrue) ∷ ‵ (Own mRun.the-row κ runs) ∷ [])) (Between 𝓤 H A at-mem run .pre (to-k t))
   goes-k t gi gj l = qed W ((‵ (flft κ q) ⊛ ‵ ftrue) ∷ ‵ (Own mRun.the-row κ runs) ∷ []) ∵ says ! l $ frame ! $ nothing ! $ owned ! usize (Is usize) (uint-makes 𝓤 H A W w64) (t .to) _ gj $ fjoin ! $ owned ! usize (Is usize) (uint-makes 𝓤 H A W w64) (t .from) _ gi $ fjoin ! $ move ! (1 ∷ 0 ∷ []) $ fjoin ! $ done !
 
-  said-k : (t : Bounds) (r : RefT (List Run)) → ent 𝓤 (ensured 𝓤 H A k.ended (k.clauses 𝓤 H A at-mem run) (κ, tt) (runs, (t .from, (t .to, tt))) tt r) (fact 𝓤 (now r ≡ runsBetween t (runs .now)))
-  said-k t r = said 𝓤 H A k.ended (κ, tt) (runs, (t .from, (t .to, tt))) (now r ≡ runsBetween t (runs .now))
+  said-k : (t : Bounds) (r : RefT (List Run)) → ent 𝓤 (ensured 𝓤 H A k.ended (k.clauses 𝓤 H A at-mem run) (κ, tt) (runs, (t .from, (t .to, tt))) tt r) (fact 𝓤 ((now r ≡ runsBetween t (runs .now)) × BeginsAt (t .from) runs r))
+  said-k t r = said 𝓤 H A k.ended (κ, tt) (runs, (t .from, (t .to, tt))) ((now r ≡ runsBetween t (runs .now)) × BeginsAt (t .from) runs r)
 
   module _ (𝓣 : Tables 𝓤 H) (known-g : Triple 𝓤 (𝓣 .C #g) (First 𝓤 H A at-mem run)) (known-h : Triple 𝓤 (𝓣 .C #h) (Then 𝓤 H A at-mem run)) (known-k : Triple 𝓤 (𝓣 .C #k) (Between 𝓤 H A at-mem run)) where
     walk : Is (ShrSlice (named 0) κ mRun.the-row) runs (lent runs ∷ []) → Is u32 a ((vint w32 a) ∷ []) → Is u32 b ((vint w32 b) ∷ []) → ent 𝓤 (onEntry 𝓤 H A f.signature (κ, tt) (q, tt) (runs, (a, (b, tt))) (lent runs ∷ [], ((vint w32 a) ∷ [], ((vint w32 b) ∷ [], tt)))) (WpFn 𝓤 H (𝓣 .C) (𝓣 .Λ) code.function (lent runs ∷ (vint w32 a) ∷ (vint w32 b) ∷ []) Post)
@@ -114,12 +115,12 @@ module _ {M : Type 1} (𝓤 : URA M) (H : Heap 𝓤) (A : Atoms 𝓤) (W : Given
         returned ! tt (‵ ftrue) mBounds.the-row (λ t. ensured 𝓤 H A h.ended (h.clauses 𝓤 H A at-mem run) tt (c, (a, (b, tt))) tt t) (λ t. t ≡ boundsOf (stretchOf (copiedRuns c) a b)) (said-h c) u (λ t e′ is′. move ! (1 ∷ []) $ drop ! $ drop ! $
         land ! (spot !) (init ! 5 refl (LL.lawful mBounds.the-type mBounds′.the-laws 𝓤 H A W .typed t _ is′ .0)) $
         rewrite ! 5 (λ (z : Val). ‵ (fat fullShare mBounds′.mir l4 0 z)) (ap only (LL.tells mBounds.the-type mBounds′.the-laws t (u ∷ []) is′)) refl $
-        move ! (1 ∷ []) $ twice ! mRun.the-row κ runs $ move ! (2 ∷ 1 ∷ []) $ use2 W (raw (Between 𝓤 H A at-mem run .pre (to-k t))) (goes-k t (LL.owed mBounds.the-type mBounds′.the-laws t _ is′ .0) (LL.owed mBounds.the-type mBounds′.the-laws t _ is′ .1 .0) (bounds-within (runs .now) a b t (e′ ∙ ap (λ (c : RunColumns). boundsOf (stretchOf (copiedRuns c) a b)) e))) $
+        move ! (1 ∷ []) $ twice ! mRun.the-row κ runs $ move ! (2 ∷ 1 ∷ []) $ use2 W (raw (Between 𝓤 H A at-mem run .pre (to-k t))) (goes-k t (LL.owed mBounds.the-type mBounds′.the-laws t _ is′ .0) (LL.owed mBounds.the-type mBounds′.the-laws t _ is′ .1 .0) (bounds-within (runs .now) a b t (bounds-are (runs .now) a b c t e e′))) $
         calls-at ! (fmOf 𝓤 H (W .laws) 𝓣) (Between 𝓤 H A at-mem run) known-k (to-k t) (and-then ! (value ! 11 refl) (and-then ! (load ! (from ! (fld ! refl (stop !))) (look-in ! 5 (sub ! 0 refl (whole !)))) (and-then ! (load ! (from ! (fld ! refl (stop !))) (look-in ! 5 (sub ! 1 refl (whole !)))) (no-more !)))) (λ z.
-        returned ! tt (‵ (flft κ q) ⊛ ‵ ftrue) (ShrSlice (named 0) κ mRun.the-row) (λ r. ensured 𝓤 H A k.ended (k.clauses 𝓤 H A at-mem run) (κ, tt) (runs, (t .from, (t .to, tt))) tt r) (λ r. now r ≡ runsBetween t (runs .now)) (said-k t) z (λ r e″ is″.
+        returned ! tt (‵ (flft κ q) ⊛ ‵ ftrue) (ShrSlice (named 0) κ mRun.the-row) (λ r. ensured 𝓤 H A k.ended (k.clauses 𝓤 H A at-mem run) (κ, tt) (runs, (t .from, (t .to, tt))) tt r) (λ r. (now r ≡ runsBetween t (runs .now)) × BeginsAt (t .from) runs r) (said-k t) z (λ r e″ is″.
         land ! (spot !) (init ! 14 refl (shr-slice-lawful 𝓤 H A W (named 0) κ mRun.the-row .typed r (z ∷ []) is″ .0)) $
         returns ! (look ! 14 refl) $ forget ! 4 refl $ forget ! 6 refl $ forget ! 8 refl $ forget ! 10 refl $ forget ! 12 refl $ forget ! 14 refl $ move ! (14 ∷ 15 ∷ []) $ free1 ! $ move ! (12 ∷ 13 ∷ []) $ free1 ! $ move ! (10 ∷ 11 ∷ []) $ free1 ! $ move ! (8 ∷ 9 ∷ []) $ free1 ! $ move ! (6 ∷ 7 ∷ []) $ free1 ! $ move ! (4 ∷ 5 ∷ []) $ free1 ! $ free0 ! $
-        suffices ! _ (ends-at 𝓤 H A f.ended stayed (f.clauses 𝓤 H A at-mem run) W (((κ, tt), (q, tt), tt, (runs, (a, (b, tt))), (lent runs ∷ [], ((vint w32 a) ∷ [], ((vint w32 b) ∷ [], tt)))), tt) z r (tt, (tt, (tt, tt))) (tt, (tt, (tt, tt)))) $ says-both ! ((e″ ∙ ap (λ (t : Bounds). runsBetween t (runs .now)) (e′ ∙ ap (λ (c : RunColumns). boundsOf (stretchOf (copiedRuns c) a b)) e)) ∙ bounds-touching (runs .now) a b) (stretch-unbroken (runs .now) (now r) a b ((e″ ∙ ap (λ (t : Bounds). runsBetween t (runs .now)) (e′ ∙ ap (λ (c : RunColumns). boundsOf (stretchOf (copiedRuns c) a b)) e)) ∙ bounds-touching (runs .now) a b)) $
+        suffices ! _ (ends-at 𝓤 H A f.ended stayed (f.clauses 𝓤 H A at-mem run) W (((κ, tt), (q, tt), tt, (runs, (a, (b, tt))), (lent runs ∷ [], ((vint w32 a) ∷ [], ((vint w32 b) ∷ [], tt)))), tt) z r (tt, (tt, (tt, tt))) (tt, (tt, (tt, tt)))) $ says-both ! (stretch-replied runs a b t r (bounds-are (runs .now) a b c t e e′) e″) (stretch-unbroken (runs .now) (now r) a b (stretch-replied runs a b t r (bounds-are (runs .now) a b c t e e′) e″ .0)) $
         move ! (1 ∷ []) $ frame ! $ move ! (1 ∷ 2 ∷ []) $ fjoin ! $ frame ! $ done !)))))))))))
 
 module _ {M : Type 1} (𝓤 : URA M) (H : Heap 𝓤) (A : Atoms 𝓤) (W : Given 𝓤 H A) (at-mem : Memory → SProp 𝓤) (run : Routine → Fun 𝓤) (𝓣 : Tables 𝓤 H) (known-g : Triple 𝓤 (𝓣 .C #g) (First 𝓤 H A at-mem run)) (known-h : Triple 𝓤 (𝓣 .C #h) (Then 𝓤 H A at-mem run)) (known-k : Triple 𝓤 (𝓣 .C #k) (Between 𝓤 H A at-mem run)) where

@@ -41,10 +41,6 @@ mul-frames-2 c = omega arith
 slice-write-frames-2 : tie.Need-slice-write-frames-2 Inv-loop μ-loop
 slice-write-frames-2 c = simp length-set (omega arith)
 
-add-t9 : tie.Need-add-t9 Inv-loop μ-loop
-unfolding taskStart
-add-t9 c = omega arith
-
 add-i : tie.Need-add-i Inv-loop μ-loop
 add-i c = omega arith
 
@@ -85,7 +81,6 @@ take-frames-spec =
     add-frames
     mul-frames-2
     slice-write-frames-2
-    add-t9
     add-i
     loop-less
     loop-again

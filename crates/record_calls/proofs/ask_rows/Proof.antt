@@ -41,7 +41,8 @@ use denote.Exit.{yes}
 use Rattle.records.proofs.Walking.{spot, value}
 use Rattle.records.specs.RecordColumns.{maxCopied, columnsOf}
 use Rattle.schedule.specs.RunCheck.{checkAnswer}
-use Rattle.schedule.specs.Queries.{runAtTick, runFromTick, HoldsTick, FirstFrom, touching as touchingRuns, TouchingStretch}
+use Rattle.schedule.specs.LentRuns.{BeginsAt}
+use Rattle.schedule.specs.Queries.{runAtTick, runFromTick, HoldsTick, FirstFrom, touching as touchingRuns, stretchOf, TouchingStretch}
 use Rattle.schedule.specs.BusyCount.{busyReply, CountsTicks}
 use Rattle.schedule.specs.declared.Run.{Run}
 use Rattle.schedule.proofs.Run as mRun
@@ -218,8 +219,8 @@ module _ {M : Type 1} (𝓤 : URA M) (H : Heap 𝓤) (A : Atoms 𝓤) (W : Given
         land ! (spot !) (init ! 11 refl (LL.lawful mBusy.the-type mBusy′.the-laws 𝓤 H A W .typed y₄ _ is₄ .0)) $
         asks-list ! framed touching.ended (touching.clauses 𝓤 H A at-mem run) (known .touches) (to-interval α r v) α r v
         (asked 𝓤 H A W α r v (u32 ∷ u32 ∷ []) (a, (b, tt)) (vint w32 a ∷ [], (vint w32 b ∷ [], tt)) (two-numbers ga gb)) (id⊢ 𝓤 _)
-        (λ y. now y ≡ touchingRuns (r .now) a b)
-        (λ y e. fst∗ 𝓤 (fact 𝓤 (now y ≡ touchingRuns (r .now) a b)) (fact 𝓤 (TouchingStretch a b (r .now) (now y))))
+        (λ y. (now y ≡ touchingRuns (r .now) a b) × BeginsAt (stretchOf (r .now) a b .first) r y)
+        (λ y e. fst∗ 𝓤 (fact 𝓤 ((now y ≡ touchingRuns (r .now) a b) × BeginsAt (stretchOf (r .now) a b .first) r y)) (fact 𝓤 (TouchingStretch a b (r .now) (now y))))
         (and-then ! (value ! 19 refl) (and-then ! (value ! 24 refl) (and-then ! (value ! 22 refl) (no-more !)))) (λ u s e-stretch is-stretch.
         land ! (spot !) (init ! 4 refl (shr-slice-lawful 𝓤 H A W (named 0) (α ∷ []) mRun.the-row .typed s (u ∷ []) is-stretch .0)) $
         -- [the token; the stretch; the list of the first runs; the lender's part; _15; …]
@@ -246,7 +247,7 @@ module _ {M : Type 1} (𝓤 : URA M) (H : Heap 𝓤) (A : Atoms 𝓤) (W : Given
         free1 ! $ free1 ! $ free0 ! $
         suffices ! _ (ends-at 𝓤 H A f.ended stayed (f.clauses 𝓤 H A at-mem run) W given w y
         (tt, (tt, (tt, (tt, (tt, tt))))) (tt, (tt, (tt, (tt, (tt, tt)))))) $
-        says ! (are-answers (r .now) (take count rows) (s .now) tick a b y₁ y₂ y₃ y₄ y₅ y e e₁ e₂ e₃ e₄ e-stretch e₅ e-all) $
+        says ! (are-answers (r .now) (take count rows) (s .now) tick a b y₁ y₂ y₃ y₄ y₅ y e e₁ e₂ e₃ e₄ (e-stretch .0) e₅ e-all) $
         move ! (1 ∷ 3 ∷ 0 ∷ []) $ frame ! $ frame ! $ keep ! (0 ∷ []) $ done !)))))))))))))))))))))))))
 
 module _ {M : Type 1} (𝓤 : URA M) (H : Heap 𝓤) (A : Atoms 𝓤) (W : Given 𝓤 H A) (at-mem : Memory → SProp 𝓤) (run : Routine → Fun 𝓤) (𝓣 : Tables 𝓤 H)

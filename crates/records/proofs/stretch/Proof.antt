@@ -125,7 +125,7 @@ module _ {M : Type 1} (𝓤 : URA M) (H : Heap 𝓤) (A : Atoms 𝓤) (W : Given
       free1 ! $ free1 ! $ free1 ! $ free1 ! $ free1 ! $ free1 ! $ free1 ! $ free1 ! $ free0 ! $
       move ! (1 ∷ 2 ∷ []) $ join ! $ move ! (0 ∷ 2 ∷ 3 ∷ []) $
       suffices ! _ (ends-at 𝓤 H A f.ended stayed (f.clauses 𝓤 H A mem run) W (((κ, tt), (q, tt), tt, (s, (i, (j, tt))), vs), tt) u (t (i * 12 + o) γ′)
-      (tt, (tt, (tt, tt))) (tt, (tt, (tt, tt)))) $ says ! refl $
+      (tt, (tt, (tt, tt))) (tt, (tt, (tt, tt)))) $ says ! (refl, refl) $
       frame ! $ fjoin ! $ frame ! $ fsplit ! $ feqI ! (List Val) (u ∷ []) (sliceVal (b, i * 12 + o) (length zs) ∷ [])
       (ap (λ (n : ℕ). sliceVal (b, i * 12 + o) n ∷ []) (part-count ys i j l)) $ fjoin ! $ fjoin ! $ done !)))))))))
     where

@@ -1,23 +1,18 @@
 -- `table::bad_period` meets its contract: each return knows the tests that led there.
 use borrow.Author.Tests.{eq-eqb, ne-eqb, lt-ltb, le-ltb}
-use Rattle.table.specs.Layout.{badPeriod}
 use Rattle.table.proofs.bad_period.Statement.{statement}
 use Rattle.table.proofs.bad_period.Tie as tie
 
 returns : tie.Need-returns
-unfolding badPeriod
 returns c = simp (eq-eqb _ _ (c .if1 .taken))
 
 returns-2 : tie.Need-returns-2
-unfolding badPeriod
 returns-2 c = simp (ne-eqb _ _ (c .before .if1 .left), eq-eqb _ _ (c .if2 .taken))
 
 returns-3 : tie.Need-returns-3
-unfolding badPeriod
 returns-3 c = simp (ne-eqb _ _ (c .before .before .if1 .left), ne-eqb _ _ (c .before .if2 .left), lt-ltb _ _ (c .if3 .taken))
 
 returns-4 : tie.Need-returns-4
-unfolding badPeriod
 returns-4 c =
     simp (
       ne-eqb _ _ (c .before .before .before .if1 .left),
@@ -27,7 +22,6 @@ returns-4 c =
     )
 
 returns-5 : tie.Need-returns-5
-unfolding badPeriod
 returns-5 c =
     simp (
       ne-eqb _ _ (c .before .before .before .if1 .left),

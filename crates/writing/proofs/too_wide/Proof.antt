@@ -2,6 +2,7 @@
 use Prim.Native.Nat.{ℕ, suc, _≤_, _<_}
 use native.Mathlib.Omega.{arith}
 use borrow.Author.Tests.{le-leb, lt-leb}
+use Rattle.base.proofs.TestLaws.{or-none}
 use Rattle.table.specs.Writing.{tooWide}
 use Rattle.writing.proofs.too_wide.Statement.{statement}
 use Rattle.writing.proofs.too_wide.Tie as tie
@@ -35,6 +36,7 @@ returns-4 c =
       lt-leb 131072 _ (narrow (c .before .before .before .if2 .left)),
       lt-leb 16384 _ (narrow (c .before .if3 .left)),
     )
+    (or-none _)
 
 pub too-wide-spec : {M : Type 1} → statement M
 too-wide-spec = tie.close (tie.spec returns returns-2 returns-3 returns-4)
