@@ -1,10 +1,12 @@
 //! The best plan of a small table, by trying every keep list, and the answers of a short run list, by looking at every tick. Nothing is shared with
-//! the reference but the types of table, task and run: ticks are counted here, a table's kind is looked up pair by pair for every cut, fitting is
+//! the reference but the types of tables, task and run: ticks are counted here, a table's kind is looked up pair by pair for every cut, fitting is
 //! added up as the rules say, work is placed tick by tick, and whether a keep list has any running is found by matching ticks to tasks, which knows
-//! nothing of kinds, orders and deadlines that come first. Of a run list every tick is written down with the runs that hold it, and the answers are
-//! read from that.
+//! nothing of kinds, orders and deadlines that come first. Of the smallest weighted tables every way of giving ticks to tasks is tried. Of a run list
+//! every tick is written down with the runs that hold it, and the answers are read from that.
 
+use crate::reference::weighted::WeightedTable;
 use crate::reference::{Run, Table, Task};
+use std::ops::Range;
 
 /// The last tick of a day.
 const LAST_OF_DAY: u32 = 24 * 60 * 60 * 1000 - 1;
@@ -56,6 +58,11 @@ fn is_similar(tasks: &[Task]) -> bool {
 /// The first position such that the tasks up to and with it are of neither kind.
 fn first_of_neither(tasks: &[Task]) -> Option<usize> {
     (0..tasks.len()).find(|&k| !is_nested(&tasks[..=k]) && !is_similar(&tasks[..=k]))
+}
+
+/// The first position whose window is not nested with some earlier one.
+fn first_crossing(tasks: &[Task]) -> Option<usize> {
+    (0..tasks.len()).find(|&k| tasks[..k].iter().any(|&earlier| !is_nested(&[earlier, tasks[k]])))
 }
 
 /// The first task in nest order whose work and that of all before it come to more than the ticks of its window.
@@ -199,13 +206,25 @@ fn in_order(table: &Table, launch: u32, nested: bool) -> Vec<Job> {
 
 /// What planning at a launch tick owes a table of which no window is bad. An error says where the rules contradict one another.
 pub fn best(table: &Table, launch: u32) -> Result<Answer, String> {
-    if let Some(k) = first_of_neither(table.tasks()) {
-        return Ok(Err((7, k)));
+    match first_of_neither(table.tasks()) {
+        Some(k) => Ok(Err((7, k))),
+        None => best_of_kind(table, is_nested(table.tasks()), &vec![1; table.count as usize], launch),
     }
+}
+
+/// The same of a weighted table of which no window and no weight is bad.
+pub fn best_weighted(weighted: &WeightedTable, launch: u32) -> Result<Answer, String> {
+    match first_crossing(weighted.table.tasks()) {
+        Some(k) => Ok(Err((7, k))),
+        None => best_of_kind(&weighted.table, true, &weighted.weights, launch),
+    }
+}
+
+/// What planning owes a table of a kind whose parts have these weights, by position.
+fn best_of_kind(table: &Table, nested: bool, weights: &[u32], launch: u32) -> Result<Answer, String> {
     if launch > LAST_OF_DAY {
         return Ok(Err((14, 0)));
     }
-    let nested = is_nested(table.tasks());
     let jobs = in_order(table, launch, nested);
     let first_unmet = if nested { first_exceeding } else { first_late };
     let n = jobs.len();
@@ -223,20 +242,20 @@ pub fn best(table: &Table, launch: u32) -> Result<Answer, String> {
         return Ok(Err((8, jobs[i].position)));
     }
 
-    // A list is better if it discards fewer, then, where the windows are nested, if its kept total is less, then if it keeps at the last task in order
-    // where they differ.
+    // A list is better if it discards less weight, then, where the windows are nested, if its kept total is less, then if it keeps at the last task in
+    // order where they differ.
     type Rank = (u32, u32, Vec<bool>);
     let mut best: Option<(Rank, Vec<u8>)> = None;
-    let mut fewest_of_runnings = u32::MAX;
+    let mut least_of_runnings = u32::MAX;
     for set in 0..1u32 << n {
         let marks: Vec<u8> = (0..n).map(|k| (set >> k & 1) as u8).collect();
         if jobs.iter().any(|job| job.optional == 0 && marks[job.position] == 0) {
             continue;
         }
-        let discarded = marks.iter().filter(|&&mark| mark == 0).count() as u32;
+        let discarded: u32 = marks.iter().zip(weights).filter(|(&mark, _)| mark == 0).map(|(_, weight)| weight).sum();
         let running = has_running(&jobs, &marks);
         if running {
-            fewest_of_runnings = fewest_of_runnings.min(discarded);
+            least_of_runnings = least_of_runnings.min(discarded);
         }
         if first_unmet(&jobs, &marks).is_none() != running {
             return Err(format!("fitting and having a running, for the marks {marks:?}"));
@@ -251,15 +270,71 @@ pub fn best(table: &Table, launch: u32) -> Result<Answer, String> {
             best = Some((rank, marks));
         }
     }
-    let Some(((discarded, _, _), marks)) = best else {
+    let Some(((least, _, _), marks)) = best else {
         return Err("no list fits though the mandatory parts do".into());
     };
-    if discarded != fewest_of_runnings {
-        return Err("the fewest discards of a list and of a running".into());
+    if least != least_of_runnings {
+        return Err("the least weight that a list discards and that a running discards".into());
     }
+    let discarded = marks.iter().filter(|&&mark| mark == 0).count() as u32;
     let kept = jobs.iter().filter(|job| job.optional > 0 && marks[job.position] == 1).count() as u32;
     let ticks = if nested { in_nest(&jobs, &marks) } else { in_sequence(&jobs, &marks) };
     Ok(Ok(Best { marks, kept, discarded, runs: stretches(&jobs, &ticks) }))
+}
+
+/// What all runnings of a table come to.
+#[derive(Clone, Copy, Debug, PartialEq, Eq)]
+pub enum Runnings {
+    /// There are too many ways of giving ticks to tasks to try them all.
+    TooMany,
+    /// No way completes all mandatory parts.
+    None,
+    /// The least weight that one of them discards.
+    Discard(u32),
+}
+
+/// How many ways of giving ticks to tasks are tried at most.
+const MOST_WAYS: usize = 5_000;
+
+/// The least weight that a running of a weighted table at a launch tick discards, by trying every way of giving each tick to a task or to none.
+pub fn runnings(weighted: &WeightedTable, launch: u32) -> Runnings {
+    let jobs = in_order(&weighted.table, launch, true);
+    let ticks = Holders::free(&jobs);
+    let takers = |tick: u32| jobs.iter().filter(|job| (job.release..job.deadline).contains(&tick)).count();
+    let ways = ticks.ticks().fold(1, |ways: usize, (tick, _)| ways.saturating_mul(1 + takers(tick)));
+    if ways > MOST_WAYS {
+        return Runnings::TooMany;
+    }
+    match least_discarded(&jobs, &weighted.weights, ticks.first..ticks.next(), &mut vec![0; jobs.len()]) {
+        Some(weight) => Runnings::Discard(weight),
+        None => Runnings::None,
+    }
+}
+
+/// The least weight that is discarded over all ways of giving these ticks, where the tasks got so many before them.
+fn least_discarded(jobs: &[Job], weights: &[u32], mut ticks: Range<u32>, got: &mut [u32]) -> Option<u32> {
+    let Some(tick) = ticks.next() else {
+        return discarded(jobs, weights, got);
+    };
+    let mut least = least_discarded(jobs, weights, ticks.clone(), got);
+    for (i, job) in jobs.iter().enumerate() {
+        if (job.release..job.deadline).contains(&tick) {
+            got[i] += 1;
+            least = [least, least_discarded(jobs, weights, ticks.clone(), got)].into_iter().flatten().min();
+            got[i] -= 1;
+        }
+    }
+    least
+}
+
+/// The weight of the parts that a running discards which gives the tasks so many ticks; none where it is no running.
+fn discarded(jobs: &[Job], weights: &[u32], got: &[u32]) -> Option<u32> {
+    let of_job = |(job, &got): (&Job, &u32)| match got {
+        _ if got == job.mandatory + job.optional => Some(0),
+        _ if got == job.mandatory => Some(weights[job.position]),
+        _ => None,
+    };
+    jobs.iter().zip(got).map(of_job).sum()
 }
 
 /// The ticks of a small range, each with the indices of the runs that hold it. No run has a tick outside of the range.

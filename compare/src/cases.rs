@@ -1,5 +1,7 @@
 //! Cases of every call, valid and damaged, long and short: the proved library against the reference, whole replies and the whole content of every lent
-//! list. Every list that the proved library gets lies between closed pages.
+//! list. Every list that the proved library gets lies between closed pages. Those of weighted tables are in `weighted`.
+
+pub mod weighted;
 
 use crate::difference::{hex, same, Lent};
 use crate::ffi::{self, BusyCount, Checked, Found, Judged, Part, Planned, TableRead, Written};
@@ -7,6 +9,7 @@ use crate::guarded::Guarded;
 use crate::inputs::{self, lent_length, Judgement};
 use crate::random::Random;
 use crate::reference::{self, Kind, Run, Table, Task, LAST_FRAME, MAX_LAUNCH};
+use crate::sides::{Judge, Named, Plan, JUDGES, PLANNERS};
 use crate::tally::{Came, Outcome};
 
 /// A list of bytes of any content.
@@ -42,21 +45,35 @@ pub fn write(random: &mut Random) -> Outcome {
         _ => inputs::faulty_table(random),
     };
     let needed = reference::file_length((table.count as usize).min(64));
+    let input = || format!("{table:?}");
+    let (said, written) = write_both(random, needed, |out| ffi::write(&table, out), |out| reference::write(&table, out).into(), input)?;
+    if said.number == 0 {
+        same("table read again", &ffi::read(written.list()), &TableRead::from(Ok(up_to_count(&table))), input)?;
+    }
+    Ok(Came::to(said.number, "accepted"))
+}
+
+/// Writing by both sides to a list whose length is around the one that is needed: the reply, and the bytes that were written.
+fn write_both(
+    random: &mut Random,
+    needed: usize,
+    proved: impl FnOnce(&mut [u8]) -> Written,
+    reference: impl FnOnce(&mut [u8]) -> Written,
+    input: impl Fn() -> String,
+) -> Result<(Written, Guarded<u8>), String> {
     let length = lent_length(random, needed);
     let mut out = bytes(random, length);
-    let proved = ffi::write(&table, out.proved.list_mut());
-    let expected = Written::from(reference::write(&table, &mut out.expected));
-    let input = || format!("{table:?}");
-    same("reply", &proved, &expected, input)?;
+    let said = proved(out.proved.list_mut());
+    same("reply", &said, &reference(&mut out.expected), &input)?;
     out.same("bytes", input)?;
-    if proved.number == 0 {
-        // Written and read again, the table is the same; places beyond the count are 0.
-        let mut same_table = Table { count: table.count, p: table.p, q: table.q, ..Table::ZERO };
-        same_table.tasks[..table.count as usize].copy_from_slice(table.tasks());
-        let written = Guarded::input(random, &out.expected[..proved.bytes]);
-        same("table read again", &ffi::read(written.list()), &TableRead::from(Ok(same_table)), input)?;
-    }
-    Ok(Came::to(proved.number, "accepted"))
+    Ok((said, Guarded::input(random, &out.expected[..said.bytes])))
+}
+
+/// A table that was written and is read again: the same, and 0 at the places beyond the count.
+fn up_to_count(table: &Table) -> Table {
+    let mut same = Table { count: table.count, p: table.p, q: table.q, ..Table::ZERO };
+    same.tasks[..table.count as usize].copy_from_slice(table.tasks());
+    same
 }
 
 /// A shift near the ends of the range that the table of a file can move in, inside it, or far beyond it.
@@ -103,15 +120,15 @@ impl Lists {
     }
 
     /// The plan of the proved library.
-    fn proved(&mut self, file: &[u8], launch: u32) -> Planned {
+    fn proved(&mut self, plan: Plan, file: &[u8], launch: u32) -> Planned {
         let [starts, ends, tasks] = &mut self.columns;
-        ffi::plan(file, launch, self.marks.proved.list_mut(), starts.proved.list_mut(), ends.proved.list_mut(), tasks.proved.list_mut())
+        plan(file, launch, self.marks.proved.list_mut(), starts.proved.list_mut(), ends.proved.list_mut(), tasks.proved.list_mut())
     }
 
     /// The plan of the reference.
-    fn expected(&mut self, file: &[u8], launch: u32) -> Planned {
+    fn expected(&mut self, plan: Plan, file: &[u8], launch: u32) -> Planned {
         let [starts, ends, tasks] = &mut self.columns;
-        Planned::from(reference::plan(file, launch, &mut self.marks.expected, &mut starts.expected, &mut ends.expected, &mut tasks.expected))
+        plan(file, launch, &mut self.marks.expected, &mut starts.expected, &mut ends.expected, &mut tasks.expected)
     }
 
     /// An error where the lists differ.
@@ -124,27 +141,40 @@ impl Lists {
     }
 }
 
-/// Planning at a launch tick, judging what it gives, and planning at launch 0.
-pub fn plan(random: &mut Random) -> Outcome {
-    let file = if random.up_to(3) > 0 { inputs::pack(&inputs::table(random)) } else { inputs::file(random) };
-    let launch = inputs::launch(random);
-    let n = (file.first().map_or(1, |byte| byte >> 1) as usize).clamp(1, 64);
+/// Marks and columns of any content to lend for the plan of n tasks: just long enough, or of lengths around that.
+fn to_lend(random: &mut Random, n: usize) -> (Vec<u8>, [Vec<u32>; 3]) {
     let exact = random.up_to(3) > 0;
     let mut length = |needed: usize| if exact { needed } else { lent_length(random, needed) };
     let lengths = [length(n), length(2 * n - 1), length(2 * n - 1), length(2 * n - 1)];
     let marks = random.bytes(lengths[0]);
     let columns = [lengths[1], lengths[2], lengths[3]].map(|length| words(random, length));
+    (marks, columns)
+}
+
+/// Planning.
+pub fn plan(random: &mut Random) -> Outcome {
+    let file = if random.up_to(3) > 0 { inputs::pack(&inputs::table(random)) } else { inputs::file(random) };
+    let said = plan_both(random, &file, &PLANNERS, &JUDGES)?;
+    Ok(plan_came(&file, said))
+}
+
+/// Planning of a file at a launch tick by both sides, judging what it gives, and planning at launch 0: the reply.
+fn plan_both(random: &mut Random, file: &[u8], planners: &[Named<Plan>; 2], judges: &[Named<Judge>; 2]) -> Result<Planned, String> {
+    let ([(_, library), (_, reference)], (_, judge)) = (*planners, judges[0]);
+    let launch = inputs::launch(random);
+    let n = (file.first().map_or(1, |byte| byte >> 1) as usize).clamp(1, 64);
+    let (marks, columns) = to_lend(random, n);
     let mut lists = Lists::new(random, &marks, &columns);
-    let held = Guarded::input(random, &file);
-    let proved = lists.proved(held.list(), launch);
-    let expected = lists.expected(&file, launch);
-    let input = || format!("launch {launch}, {}", hex(&file));
+    let held = Guarded::input(random, file);
+    let proved = lists.proved(library, held.list(), launch);
+    let expected = lists.expected(reference, file, launch);
+    let input = || format!("launch {launch}, {}", hex(file));
     same("reply", &proved, &expected, input)?;
     lists.same("", input)?;
     if proved.number == 0 {
         let runs = of_columns(proved.runs, [0, 1, 2].map(|k: usize| lists.columns[k].proved.list()));
         let runs = Guarded::input(random, &runs);
-        let said = ffi::judge(held.list(), launch, &lists.marks.proved.list()[..n], runs.list());
+        let said = judge(held.list(), launch, &lists.marks.proved.list()[..n], runs.list());
         let owed = Judged { number: 0, place: 0, yes: true, kept: proved.kept, discarded: proved.discarded };
         same("judge of the plan", &said, &owed, input)?;
         same("check of the plan's runs", &ffi::check_runs(runs.list()), &Checked { number: 0, place: 0 }, input)?;
@@ -152,7 +182,7 @@ pub fn plan(random: &mut Random) -> Outcome {
     if (1..=MAX_LAUNCH).contains(&launch) {
         // With launch 0 the reply, the marks and the tasks are the same, and each run lies earlier by the launch tick.
         let mut at_0 = Lists::new(random, &marks, &columns);
-        let proved_0 = at_0.proved(held.list(), 0);
+        let proved_0 = at_0.proved(library, held.list(), 0);
         same("reply at the launch tick and at 0", &proved, &proved_0, input)?;
         at_0.marks.expected = lists.marks.expected;
         for ((k, at_0), column) in at_0.columns.iter_mut().enumerate().zip(&lists.columns) {
@@ -163,7 +193,7 @@ pub fn plan(random: &mut Random) -> Outcome {
         }
         at_0.same(" at 0 and at the launch tick", input)?;
     }
-    Ok(plan_came(&file, proved))
+    Ok(proved)
 }
 
 /// What planning of a file came to.
@@ -185,11 +215,17 @@ pub fn plan_came(file: &[u8], said: Planned) -> Came {
 /// Judging at the launch tick that the runs were made at, or at another one.
 pub fn judge(random: &mut Random) -> Outcome {
     let judgement = inputs::judgement(random);
-    judge_both(random, &judgement)
+    judge_both(random, &judgement, &JUDGES)
 }
 
-/// One task whose ticks are all runs of their own: the most runs, and one more.
+/// Judging around the limit of runs.
 pub fn judge_long(random: &mut Random) -> Outcome {
+    let (table, launch, runs) = many_runs(random);
+    judge_both(random, &Judgement { file: inputs::pack(&table), launch, marks: vec![1], runs }, &JUDGES)
+}
+
+/// One task whose ticks are all runs of their own, about as many as the judge accepts, at a launch tick.
+fn many_runs(random: &mut Random) -> (Table, u32, Vec<Run>) {
     let length = random.between(4090, 4100);
     let mut table = Table { count: 1, p: 1, q: 1, ..Table::ZERO };
     table.tasks[0] = Task { release: 0, deadline: 2 * length + 1, mandatory: length, optional: 0 };
@@ -204,14 +240,15 @@ pub fn judge_long(random: &mut Random) -> Outcome {
         let at = random.index(length as usize);
         runs[at].end += random.up_to(2);
     }
-    judge_both(random, &Judgement { file: inputs::pack(&table), launch, marks: vec![1], runs })
+    (table, launch, runs)
 }
 
 /// Judging by both sides.
-fn judge_both(random: &mut Random, Judgement { file, launch, marks, runs }: &Judgement) -> Outcome {
+fn judge_both(random: &mut Random, Judgement { file, launch, marks, runs }: &Judgement, judges: &[Named<Judge>; 2]) -> Outcome {
+    let [(_, library), (_, reference)] = *judges;
     let (held, list, lent) = (Guarded::input(random, file), Guarded::input(random, marks), Guarded::input(random, runs));
-    let proved = ffi::judge(held.list(), *launch, list.list(), lent.list());
-    let expected = Judged::from(reference::judge(file, *launch, marks, runs));
+    let proved = library(held.list(), *launch, list.list(), lent.list());
+    let expected = reference(file, *launch, marks, runs);
     same("reply", &proved, &expected, || format!("launch {launch}, marks {marks:?}, {runs:?}, {}", hex(file)))?;
     Ok(Came::to(proved.number, if proved.yes { "yes" } else { "no" }))
 }

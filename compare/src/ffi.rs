@@ -1,6 +1,7 @@
-//! The ten calls of the proved library, as include/planner.h declares them, each in a safe function; for `compare/before` also the planning, the
+//! The fourteen calls of the proved library, as include/planner.h declares them, each in a safe function; for `compare/before` also the planning, the
 //! judge and the busy count of an earlier commit's library.
 
+use crate::reference::weighted::WeightedTable;
 use crate::reference::{Plan, Refusal, Run, Table, Verdict};
 use std::ops::Range;
 
@@ -11,6 +12,15 @@ pub struct TableRead {
     pub number: u32,
     pub place: usize,
     pub table: Table,
+}
+
+/// The reply of reading of a weighted table.
+#[repr(C)]
+#[derive(Clone, Copy, Debug, PartialEq, Eq)]
+pub struct WeightedTableRead {
+    pub number: u32,
+    pub place: usize,
+    pub table: WeightedTable,
 }
 
 /// The reply of writing and of moving.
@@ -110,6 +120,30 @@ extern "C" {
     fn planner_run_at(runs: *const Run, runs_length: usize, tick: u32) -> Found;
     fn planner_run_from(runs: *const Run, runs_length: usize, tick: u32) -> Found;
     fn planner_runs_touching(runs: *const Run, runs_length: usize, a: u32, b: u32) -> Part;
+    fn planner_weighted_read(file: *const u8, file_length: usize) -> WeightedTableRead;
+    fn planner_weighted_write(table: WeightedTable, out: *mut u8, out_length: usize) -> Written;
+    fn planner_weighted_plan(
+        file: *const u8,
+        file_length: usize,
+        launch: u32,
+        marks: *mut u8,
+        marks_length: usize,
+        starts: *mut u32,
+        starts_length: usize,
+        ends: *mut u32,
+        ends_length: usize,
+        tasks: *mut u32,
+        tasks_length: usize,
+    ) -> Planned;
+    fn planner_weighted_judge(
+        file: *const u8,
+        file_length: usize,
+        launch: u32,
+        marks: *const u8,
+        marks_length: usize,
+        runs: *const Run,
+        runs_length: usize,
+    ) -> Judged;
 }
 
 // Planning by the library of an earlier commit: compare/before puts before_ before its names. The header declares it there as it does here.
@@ -186,9 +220,19 @@ pub fn read(file: &[u8]) -> TableRead {
     unsafe { planner_read(file.as_ptr(), file.len()) }
 }
 
+/// Reading of a weighted table.
+pub fn weighted_read(file: &[u8]) -> WeightedTableRead {
+    unsafe { planner_weighted_read(file.as_ptr(), file.len()) }
+}
+
 /// Writing.
 pub fn write(table: &Table, out: &mut [u8]) -> Written {
     unsafe { planner_write(*table, out.as_mut_ptr(), out.len()) }
+}
+
+/// Writing of a weighted table.
+pub fn weighted_write(table: &WeightedTable, out: &mut [u8]) -> Written {
+    unsafe { planner_weighted_write(*table, out.as_mut_ptr(), out.len()) }
 }
 
 /// Moving by a signed number of frames.
@@ -207,10 +251,15 @@ pub fn plan_before(file: &[u8], launch: u32, marks: &mut [u8], starts: &mut [u32
     unsafe { plan_by(before_planner_plan, file, launch, marks, starts, ends, tasks) }
 }
 
+/// Planning of a weighted table at a launch tick.
+pub fn weighted_plan(file: &[u8], launch: u32, marks: &mut [u8], starts: &mut [u32], ends: &mut [u32], tasks: &mut [u32]) -> Planned {
+    unsafe { plan_by(planner_weighted_plan, file, launch, marks, starts, ends, tasks) }
+}
+
 /// Planning by a library's call.
 ///
 /// # Safety
-/// The call is the planning of a library whose header is include/planner.h.
+/// The call is a planning of a library whose header is include/planner.h.
 #[inline(always)]
 unsafe fn plan_by(call: PlanCall, file: &[u8], launch: u32, marks: &mut [u8], starts: &mut [u32], ends: &mut [u32], tasks: &mut [u32]) -> Planned {
     call(
@@ -231,6 +280,11 @@ unsafe fn plan_by(call: PlanCall, file: &[u8], launch: u32, marks: &mut [u8], st
 /// Judging at a launch tick.
 pub fn judge(file: &[u8], launch: u32, marks: &[u8], runs: &[Run]) -> Judged {
     unsafe { planner_judge(file.as_ptr(), file.len(), launch, marks.as_ptr(), marks.len(), runs.as_ptr(), runs.len()) }
+}
+
+/// Judging of a weighted table at a launch tick.
+pub fn weighted_judge(file: &[u8], launch: u32, marks: &[u8], runs: &[Run]) -> Judged {
+    unsafe { planner_weighted_judge(file.as_ptr(), file.len(), launch, marks.as_ptr(), marks.len(), runs.as_ptr(), runs.len()) }
 }
 
 /// Judging at a launch tick by the library of the earlier commit, which takes records.
@@ -307,6 +361,15 @@ impl From<Result<Table, Refusal>> for TableRead {
     }
 }
 
+impl From<Result<WeightedTable, Refusal>> for WeightedTableRead {
+    fn from(said: Result<WeightedTable, Refusal>) -> WeightedTableRead {
+        match said {
+            Ok(table) => WeightedTableRead { number: 0, place: 0, table },
+            Err(Refusal { number, place }) => WeightedTableRead { number, place, table: WeightedTable::ZERO },
+        }
+    }
+}
+
 impl From<Result<usize, Refusal>> for Written {
     fn from(said: Result<usize, Refusal>) -> Written {
         match said {
@@ -368,7 +431,7 @@ impl From<Range<usize>> for Part {
     }
 }
 
-/// Where the ten calls are, for calling them on a stack of one's own.
+/// Where the fourteen calls are, for calling them on a stack of one's own.
 pub(crate) struct Addresses {
     pub read: usize,
     pub write: usize,
@@ -380,9 +443,13 @@ pub(crate) struct Addresses {
     pub run_at: usize,
     pub run_from: usize,
     pub runs_touching: usize,
+    pub weighted_read: usize,
+    pub weighted_write: usize,
+    pub weighted_plan: usize,
+    pub weighted_judge: usize,
 }
 
-/// The addresses of the ten calls.
+/// The addresses of the fourteen calls.
 pub(crate) fn addresses() -> Addresses {
     Addresses {
         read: planner_read as *const () as usize,
@@ -395,5 +462,9 @@ pub(crate) fn addresses() -> Addresses {
         run_at: planner_run_at as *const () as usize,
         run_from: planner_run_from as *const () as usize,
         runs_touching: planner_runs_touching as *const () as usize,
+        weighted_read: planner_weighted_read as *const () as usize,
+        weighted_write: planner_weighted_write as *const () as usize,
+        weighted_plan: planner_weighted_plan as *const () as usize,
+        weighted_judge: planner_weighted_judge as *const () as usize,
     }
 }

@@ -1,10 +1,12 @@
-//! Tables, files and run lists made at random: valid ones, and ones that are damaged.
+//! Tables, files and run lists made at random: valid ones, and ones that are damaged. Weighted ones are in `weighted`.
+
+pub mod weighted;
 
 use crate::random::Random;
-use crate::reference::{self, Clock, Kind, Run, Table, Task, LAST_FRAME, MAX_LAUNCH, MAX_PERIOD, MAX_RUNS, MAX_TASKS, MAX_TICKS};
+use crate::reference::{self, Clock, Kind, Planning, Refusal, Run, Table, Task, LAST_FRAME, MAX_LAUNCH, MAX_PERIOD, MAX_RUNS, MAX_TASKS, MAX_TICKS};
 
 /// The greatest number that a call refuses with.
-pub const LAST_REFUSAL: u32 = 15;
+pub const LAST_REFUSAL: u32 = 16;
 
 /// How the lengths of a table's parts compare with the ticks that its windows have.
 #[derive(Clone, Copy, Debug, PartialEq, Eq)]
@@ -13,6 +15,8 @@ pub enum Load {
     Loose,
     /// Mandatory parts fit; many optional parts don't.
     Tight,
+    /// Short mandatory parts fit; most optional parts do so alone, and not beside one another.
+    Crowded,
     /// Few lengths, many of them equal, many of them 0.
     Few,
     /// Lengths at and near the limit.
@@ -167,6 +171,7 @@ fn lengths(random: &mut Random, free: u32, few: u32, load: Load) -> (u32, u32) {
             let mandatory = random.up_to(free / part);
             (mandatory, random.up_to((free - mandatory / 2).saturating_mul(3).max(few)))
         }
+        Load::Crowded => (random.up_to(free / 8), random.between(1, free.max(1))),
         Load::Few => (random.up_to(few).min(free), random.up_to(few)),
         Load::Large => {
             (if random.once_in(2) { random.up_to(free) } else { random.between(MAX_TICKS - 1, MAX_TICKS).min(free) }, MAX_TICKS - random.up_to(2))
@@ -269,54 +274,93 @@ pub fn mixed_table(random: &mut Random) -> Table {
 pub fn faulty_table(random: &mut Random) -> Table {
     let mut table = table(random);
     for _ in 0..random.between(1, 3) {
-        let n = (table.count as usize).min(MAX_TASKS);
-        let k = random.index(n.max(1));
-        match random.up_to(10) {
-            0 => table.count = random.pick(&[0, 1, 63, 64, 65, 66, 127, 128, u32::MAX]),
-            1 => table.p = random.pick(&[0, 1, 2, MAX_PERIOD, MAX_PERIOD + 1, 8191, u32::MAX]),
-            2 => table.q = random.pick(&[0, 1, 2, MAX_PERIOD, MAX_PERIOD + 1, 8191, u32::MAX]),
-            3 => table.q = random.any(),
-            4 => table.tasks[k].release = random.any(),
-            5 => table.tasks[k].deadline = random.any(),
-            6 => table.tasks[k].mandatory = random.pick(&[MAX_TICKS, MAX_TICKS + 1, u32::MAX, 0]),
-            7 => table.tasks[k].optional = random.pick(&[MAX_TICKS, MAX_TICKS + 1, u32::MAX, 0]),
-            8 => {
-                let by = random.between(1, 3);
-                table.tasks[k].release = (table.tasks[k].release + by).min(LAST_FRAME);
-                table.tasks[k].deadline = (table.tasks[k].deadline + by).min(LAST_FRAME);
-            }
-            9 => set_against(random, &mut table),
-            _ => {
-                // Places beyond the count don't matter.
-                for task in &mut table.tasks[n..] {
-                    *task = Task { release: random.any(), deadline: random.any(), mandatory: random.any(), optional: random.any() };
-                }
-            }
-        }
+        spoil(random, &mut table);
     }
     table
 }
 
+/// Gives a table a fault, which may do no harm.
+fn spoil(random: &mut Random, table: &mut Table) {
+    let n = (table.count as usize).min(MAX_TASKS);
+    let k = random.index(n.max(1));
+    match random.up_to(10) {
+        0 => table.count = random.pick(&[0, 1, 63, 64, 65, 66, 127, 128, u32::MAX]),
+        1 => table.p = random.pick(&[0, 1, 2, MAX_PERIOD, MAX_PERIOD + 1, 8191, u32::MAX]),
+        2 => table.q = random.pick(&[0, 1, 2, MAX_PERIOD, MAX_PERIOD + 1, 8191, u32::MAX]),
+        3 => table.q = random.any(),
+        4 => table.tasks[k].release = random.any(),
+        5 => table.tasks[k].deadline = random.any(),
+        6 => table.tasks[k].mandatory = random.pick(&[MAX_TICKS, MAX_TICKS + 1, u32::MAX, 0]),
+        7 => table.tasks[k].optional = random.pick(&[MAX_TICKS, MAX_TICKS + 1, u32::MAX, 0]),
+        8 => {
+            let by = random.between(1, 3);
+            table.tasks[k].release = (table.tasks[k].release + by).min(LAST_FRAME);
+            table.tasks[k].deadline = (table.tasks[k].deadline + by).min(LAST_FRAME);
+        }
+        9 => set_against(random, table),
+        _ => {
+            // Places beyond the count don't matter.
+            for task in &mut table.tasks[n..] {
+                *task = Task { release: random.any(), deadline: random.any(), mandatory: random.any(), optional: random.any() };
+            }
+        }
+    }
+}
+
 /// The fields of a table packed into bytes with no check; wider fields lose their high bits. Padding is 0.
 pub fn pack(table: &Table) -> Vec<u8> {
+    pack_with(table, None)
+}
+
+/// The same with the weight of each task behind its other fields, where there are weights.
+fn pack_with(table: &Table, weights: Option<&[u32; MAX_TASKS]>) -> Vec<u8> {
     let mut bits = Vec::new();
     let mut put = |width: u32, value: u32| bits.extend((0..width).rev().map(|i| value >> i & 1 == 1));
     put(7, table.count);
     put(12, table.p);
     put(12, table.q);
-    for task in table.tasks.iter().take(table.count as usize) {
+    for (k, task) in table.tasks.iter().enumerate().take(table.count as usize) {
         put(17, task.release);
         put(17, task.deadline);
         put(14, task.mandatory);
         put(14, task.optional);
+        if let Some(weights) = weights {
+            put(4, weights[k]);
+        }
     }
     bits.chunks(8).map(|byte| byte.iter().enumerate().fold(0, |sum, (i, &bit)| sum | u8::from(bit) << (7 - i))).collect()
 }
 
+/// A sort of table files: how they are made, and how the reference reads and plans them.
+struct Sort {
+    /// A file of a legal table, of one that has faults, and of one whose windows mostly don't go together.
+    legal: fn(&mut Random) -> Vec<u8>,
+    faulty: fn(&mut Random) -> Vec<u8>,
+    mixed: fn(&mut Random) -> Vec<u8>,
+    /// The bytes of a file of so many tasks.
+    length: fn(usize) -> usize,
+    read: fn(&[u8]) -> Result<Table, Refusal>,
+    plan: Planning,
+}
+
+const PLAIN: Sort = Sort {
+    legal: |random| pack(&table(random)),
+    faulty: |random| pack(&faulty_table(random)),
+    mixed: |random| pack(&mixed_table(random)),
+    length: reference::file_length,
+    read: reference::read,
+    plan: reference::plan,
+};
+
 /// A file: half of them legal, the others damaged in many ways.
 pub fn file(random: &mut Random) -> Vec<u8> {
+    file_of(random, &PLAIN)
+}
+
+/// A file of a sort, as above.
+fn file_of(random: &mut Random, sort: &Sort) -> Vec<u8> {
     match random.up_to(19) {
-        0..=9 => pack(&table(random)),
+        0..=9 => (sort.legal)(random),
         10 => {
             let length = random.up_to(20) as usize;
             random.bytes(length)
@@ -324,7 +368,7 @@ pub fn file(random: &mut Random) -> Vec<u8> {
         11 => {
             // Random bytes of just the length that their count needs.
             let n = random.between(1, 64);
-            let mut file = random.bytes(reference::file_length(n as usize));
+            let mut file = random.bytes((sort.length)(n as usize));
             file[0] = (n << 1) as u8 | file[0] & 1;
             if random.up_to(3) > 0 {
                 let last = file.len() - 1;
@@ -332,10 +376,10 @@ pub fn file(random: &mut Random) -> Vec<u8> {
             }
             file
         }
-        12..=13 => pack(&faulty_table(random)),
-        14 => pack(&mixed_table(random)),
+        12..=13 => (sort.faulty)(random),
+        14 => (sort.mixed)(random),
         _ => {
-            let mut file = pack(&table(random));
+            let mut file = (sort.legal)(random);
             for _ in 0..random.between(1, 2) {
                 damage(random, &mut file);
             }
@@ -480,10 +524,15 @@ fn judged_launch(random: &mut Random, made: u32) -> u32 {
 /// A file, a launch tick, a keep list and a run list for the judge: plans, other runnings, runs for tables that have no plan, and damaged ones, made
 /// at the launch tick or at another one.
 pub fn judgement(random: &mut Random) -> Judgement {
-    let mut file = file(random);
+    judgement_of(random, &PLAIN)
+}
+
+/// The same with a file of a sort.
+fn judgement_of(random: &mut Random, sort: &Sort) -> Judgement {
+    let mut file = file_of(random, sort);
     let made = accepted_launch(random);
     let launch = judged_launch(random, made);
-    let Ok(table) = reference::read(&file) else {
+    let Ok(table) = (sort.read)(&file) else {
         let n = random.up_to(70) as usize;
         let runs = random.up_to(70) as usize;
         return Judgement { file, launch, marks: random.bytes(n), runs: random_runs(random, runs) };
@@ -491,7 +540,7 @@ pub fn judgement(random: &mut Random) -> Judgement {
     let n = table.count as usize;
     let mut marks = vec![0; n];
     let (mut starts, mut ends, mut tasks) = (vec![0; 2 * n - 1], vec![0; 2 * n - 1], vec![0; 2 * n - 1]);
-    let planned = reference::plan(&file, made, &mut marks, &mut starts, &mut ends, &mut tasks);
+    let planned = (sort.plan)(&file, made, &mut marks, &mut starts, &mut ends, &mut tasks);
     let mut runs: Vec<Run> = match planned {
         Ok(plan) => (0..plan.runs).map(|i| Run { start: starts[i], end: ends[i], task: tasks[i] }).collect(),
         Err(_) if random.once_in(2) => latest_runs(&table, made, &marks, &(0..n).collect::<Vec<usize>>()),

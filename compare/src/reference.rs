@@ -1,5 +1,7 @@
 //! The independent implementation: reading, writing, moving, planning, judging, the busy count and the queries of a run list, written from the rules
-//! of documents 01 and 02 (requests 1 to 6) and not from the proved library. Only std, no unsafe code.
+//! of documents 01 and 02 (requests 1 to 7) and not from the proved library. Only std, no unsafe code. Weighted tables are in `weighted`.
+
+pub mod weighted;
 
 use std::cmp::Ordering;
 use std::collections::VecDeque;
@@ -90,6 +92,9 @@ pub struct Plan {
     pub runs: usize,
 }
 
+/// Planning as a function: a file, a launch tick, and lent lists of marks, starts, ends and tasks.
+pub type Planning = fn(&[u8], u32, &mut [u8], &mut [u32], &mut [u32], &mut [u32]) -> Result<Plan, Refusal>;
+
 /// What an accepted judging call replies.
 #[derive(Clone, Copy, Debug, PartialEq, Eq)]
 pub struct Verdict {
@@ -137,7 +142,12 @@ fn check_launch(launch: u32) -> Result<(), Refusal> {
 
 /// The bytes of a file of `count` tasks.
 pub fn file_length(count: usize) -> usize {
-    (HEADER_BITS + TASK_BITS * count).div_ceil(8)
+    bytes_needed(count, TASK_BITS)
+}
+
+/// The bytes of a file of `count` tasks that have so many bits each.
+fn bytes_needed(count: usize, task_bits: usize) -> usize {
+    (HEADER_BITS + task_bits * count).div_ceil(8)
 }
 
 /// Takes fields out of bytes, the most significant bit first.
@@ -154,6 +164,7 @@ impl<'a> BitReader<'a> {
     }
 
     /// The next field; bits behind the last byte are 0.
+    #[inline]
     fn take(&mut self, width: u32) -> u32 {
         while self.bits < width {
             let byte = self.bytes.next().copied().unwrap_or(0);
@@ -179,6 +190,7 @@ impl<'a> BitWriter<'a> {
     }
 
     /// Puts a field behind the others; what has no place is lost.
+    #[inline]
     fn put(&mut self, width: u32, value: u32) {
         self.held = self.held << width | u64::from(value);
         self.bits += width;
@@ -221,6 +233,7 @@ fn contains(outer: &Task, inner: &Task) -> bool {
 }
 
 /// One of the windows contains the other.
+#[inline]
 fn nested(a: &Task, b: &Task) -> bool {
     contains(a, b) || contains(b, a)
 }
@@ -234,11 +247,17 @@ fn similar(a: &Task, b: &Task) -> bool {
     }
 }
 
+/// Refusal 6.
+fn check_frames(tasks: &[Task]) -> Result<(), Refusal> {
+    match tasks.iter().position(|task| task.release >= task.deadline) {
+        Some(k) => refuse(6, k),
+        None => Ok(()),
+    }
+}
+
 /// Refusals 6 and 7, and the kind of a table that has neither fault.
 pub fn check_windows(tasks: &[Task]) -> Result<Kind, Refusal> {
-    if let Some(k) = tasks.iter().position(|t| t.release >= t.deadline) {
-        return refuse(6, k);
-    }
+    check_frames(tasks)?;
     // Of the tasks so far all are nested; all are similar.
     let (mut all_nested, mut all_similar) = (true, true);
     for (k, task) in tasks.iter().enumerate() {
@@ -256,8 +275,15 @@ pub fn read(file: &[u8]) -> Result<Table, Refusal> {
     read_with_kind(file).map(|(table, _)| table)
 }
 
-/// Reading, and the kind of the table.
-fn read_with_kind(file: &[u8]) -> Result<(Table, Kind), Refusal> {
+/// What a file begins with.
+struct Header {
+    count: u32,
+    p: u32,
+    q: u32,
+}
+
+/// The header of a file whose tasks have so many bits each, and the reader behind it. Refusals 1 to 5.
+fn read_header(file: &[u8], task_bits: usize) -> Result<(Header, BitReader<'_>), Refusal> {
     if file.len() < 4 {
         return refuse(1, file.len());
     }
@@ -266,14 +292,14 @@ fn read_with_kind(file: &[u8]) -> Result<(Table, Kind), Refusal> {
     if bad_count(count) {
         return refuse(2, 0);
     }
-    let needed = file_length(count as usize);
+    let needed = bytes_needed(count as usize, task_bits);
     if file.len() < needed {
         return refuse(1, file.len());
     }
     if file.len() > needed {
         return refuse(3, needed);
     }
-    let padding = 8 * needed - (HEADER_BITS + TASK_BITS * count as usize);
+    let padding = 8 * needed - (HEADER_BITS + task_bits * count as usize);
     if file[needed - 1] & ((1 << padding) - 1) != 0 {
         return refuse(4, 0);
     }
@@ -282,32 +308,54 @@ fn read_with_kind(file: &[u8]) -> Result<(Table, Kind), Refusal> {
     if bad_period(p, q) {
         return refuse(5, 0);
     }
+    Ok((Header { count, p, q }, bits))
+}
+
+/// The next four fields, which are a task.
+#[inline]
+fn take_task(bits: &mut BitReader) -> Task {
+    Task { release: bits.take(FRAME_BITS), deadline: bits.take(FRAME_BITS), mandatory: bits.take(TICK_BITS), optional: bits.take(TICK_BITS) }
+}
+
+/// Reading, and the kind of the table.
+fn read_with_kind(file: &[u8]) -> Result<(Table, Kind), Refusal> {
+    let (Header { count, p, q }, mut bits) = read_header(file, TASK_BITS)?;
     let mut table = Table { count, p, q, ..Table::ZERO };
     for task in &mut table.tasks[..count as usize] {
-        *task =
-            Task { release: bits.take(FRAME_BITS), deadline: bits.take(FRAME_BITS), mandatory: bits.take(TICK_BITS), optional: bits.take(TICK_BITS) };
+        *task = take_task(&mut bits);
     }
     let kind = check_windows(table.tasks())?;
     Ok((table, kind))
 }
 
-/// The file of a legal table, into a list of exactly its length.
-fn encode(table: &Table, file: &mut [u8]) {
-    let mut bits = BitWriter::new(file);
+/// Puts what a file begins with.
+fn put_header(bits: &mut BitWriter, table: &Table) {
     bits.put(COUNT_BITS, table.count);
     bits.put(PERIOD_BITS, table.p);
     bits.put(PERIOD_BITS, table.q);
+}
+
+/// Puts the four fields of a task.
+#[inline]
+fn put_task(bits: &mut BitWriter, task: &Task) {
+    bits.put(FRAME_BITS, task.release);
+    bits.put(FRAME_BITS, task.deadline);
+    bits.put(TICK_BITS, task.mandatory);
+    bits.put(TICK_BITS, task.optional);
+}
+
+/// The file of a legal table, into a list of exactly its length.
+fn encode(table: &Table, file: &mut [u8]) {
+    let mut bits = BitWriter::new(file);
+    put_header(&mut bits, table);
     for task in table.tasks() {
-        bits.put(FRAME_BITS, task.release);
-        bits.put(FRAME_BITS, task.deadline);
-        bits.put(TICK_BITS, task.mandatory);
-        bits.put(TICK_BITS, task.optional);
+        put_task(&mut bits, task);
     }
     bits.finish();
 }
 
-/// Writing; replies the number of bytes written.
-pub fn write(table: &Table, out: &mut [u8]) -> Result<usize, Refusal> {
+/// Refusals 2, 5 and 12: what writing looks at before the windows.
+fn check_fields(table: &Table) -> Result<(), Refusal> {
     if bad_count(table.count) {
         return refuse(2, 0);
     }
@@ -315,9 +363,15 @@ pub fn write(table: &Table, out: &mut [u8]) -> Result<usize, Refusal> {
         return refuse(5, 0);
     }
     let too_wide = |t: &Task| t.release > LAST_FRAME || t.deadline > LAST_FRAME || t.mandatory > MAX_TICKS || t.optional > MAX_TICKS;
-    if let Some(k) = table.tasks().iter().position(too_wide) {
-        return refuse(12, k);
+    match table.tasks().iter().position(too_wide) {
+        Some(k) => refuse(12, k),
+        None => Ok(()),
     }
+}
+
+/// Writing; replies the number of bytes written.
+pub fn write(table: &Table, out: &mut [u8]) -> Result<usize, Refusal> {
+    check_fields(table)?;
     check_windows(table.tasks())?;
     let needed = file_length(table.count as usize);
     let Some(file) = out.get_mut(..needed) else {
@@ -582,6 +636,41 @@ fn place_similar(jobs: &[Job], kept: &[bool; MAX_TASKS]) -> Vec<Run> {
     runs
 }
 
+/// The lists that a plan is written to.
+struct Lists<'a> {
+    marks: &'a mut [u8],
+    starts: &'a mut [u32],
+    ends: &'a mut [u32],
+    tasks: &'a mut [u32],
+}
+
+impl Lists<'_> {
+    /// Refusal 9 for a table of n tasks.
+    fn check(&self, n: usize) -> Result<(), Refusal> {
+        let most_runs = 2 * n - 1;
+        if self.marks.len() < n || self.starts.len() < most_runs || self.ends.len() < most_runs || self.tasks.len() < most_runs {
+            return refuse(9, 0);
+        }
+        Ok(())
+    }
+
+    /// Writes a plan: marks by position, runs by start. The counts leave parts of 0 ticks out.
+    fn fill(self, jobs: &[Job], kept: &[bool; MAX_TASKS], runs: &[Run]) -> Plan {
+        let mut plan = Plan { kept: 0, discarded: 0, runs: runs.len() };
+        for (job, &kept) in jobs.iter().zip(kept) {
+            self.marks[job.position] = u8::from(kept);
+            if job.optional > 0 {
+                plan.kept += u32::from(kept);
+                plan.discarded += u32::from(!kept);
+            }
+        }
+        for (((run, start), end), task) in runs.iter().zip(self.starts).zip(self.ends).zip(self.tasks) {
+            (*start, *end, *task) = (run.start, run.end, run.task);
+        }
+        plan
+    }
+}
+
 /// Planning at a launch tick: marks by position, runs by start.
 pub fn plan(file: &[u8], launch: u32, marks: &mut [u8], starts: &mut [u32], ends: &mut [u32], tasks: &mut [u32]) -> Result<Plan, Refusal> {
     let (table, kind) = read_with_kind(file)?;
@@ -595,10 +684,8 @@ pub fn plan(file: &[u8], launch: u32, marks: &mut [u8], starts: &mut [u32], ends
     if let Some(job) = unmet {
         return refuse(8, job.position);
     }
-    let most_runs = 2 * n - 1;
-    if marks.len() < n || starts.len() < most_runs || ends.len() < most_runs || tasks.len() < most_runs {
-        return refuse(9, 0);
-    }
+    let lists = Lists { marks, starts, ends, tasks };
+    lists.check(n)?;
     let (kept, runs) = match kind {
         Kind::Nested => {
             let kept = choose_nested(jobs);
@@ -609,18 +696,7 @@ pub fn plan(file: &[u8], launch: u32, marks: &mut [u8], starts: &mut [u32], ends
             (kept, place_similar(jobs, &kept))
         }
     };
-    let mut plan = Plan { kept: 0, discarded: 0, runs: runs.len() };
-    for (job, &kept) in jobs.iter().zip(&kept) {
-        marks[job.position] = u8::from(kept);
-        if job.optional > 0 {
-            plan.kept += u32::from(kept);
-            plan.discarded += u32::from(!kept);
-        }
-    }
-    for (((run, start), end), task) in runs.iter().zip(starts).zip(ends).zip(tasks) {
-        (*start, *end, *task) = (run.start, run.end, run.task);
-    }
-    Ok(plan)
+    Ok(lists.fill(jobs, &kept, &runs))
 }
 
 // ---- judging
@@ -662,7 +738,11 @@ fn is_running(table: &Table, launch: u32, marks: &[u8], runs: &[Run]) -> bool {
 
 /// Judging at a launch tick.
 pub fn judge(file: &[u8], launch: u32, marks: &[u8], runs: &[Run]) -> Result<Verdict, Refusal> {
-    let table = read(file)?;
+    judge_table(&read(file)?, launch, marks, runs)
+}
+
+/// Judging of what a table's file was read to.
+fn judge_table(table: &Table, launch: u32, marks: &[u8], runs: &[Run]) -> Result<Verdict, Refusal> {
     check_launch(launch)?;
     let n = table.count as usize;
     if marks.len() != n {
@@ -672,7 +752,7 @@ pub fn judge(file: &[u8], launch: u32, marks: &[u8], runs: &[Run]) -> Result<Ver
         return refuse(11, k);
     }
     check_count(runs)?;
-    if !is_running(&table, launch, marks, runs) {
+    if !is_running(table, launch, marks, runs) {
         return Ok(Verdict { yes: false, kept: 0, discarded: 0 });
     }
     let (mut kept, mut discarded) = (0, 0);

@@ -1,19 +1,54 @@
-//! The samples of the rules, with the answers that the documents give, put to both sides; and run lists of every length.
+//! The samples of the rules, with the answers that the documents give, put to both sides; and run lists of every length. Those of weighted tables are
+//! in `weighted`.
+
+mod weighted;
 
 use crate::difference::{hex, same};
 use crate::ffi::{self, BusyCount, Checked, Found, Judged, Part, Planned, Written};
 use crate::inputs;
 use crate::reference::{self, Run, Table, MAX_LAUNCH, MAX_RUNS};
-use crate::sides::{plan_with, JUDGES, PLANNERS, RUN_LISTS};
+use crate::sides::{plan_with, Named, Plan, JUDGES, PLANNERS, RUN_LISTS};
 
 /// Noon, in ticks of the day.
 const NOON: u32 = 43_200_000;
+
+/// What planning gives: its reply, marks and runs.
+type Given = (Planned, Vec<u8>, Vec<(u32, u32, u32)>);
+
+/// A plan with these counts, marks and runs.
+fn planned(kept: u32, discarded: u32, marks: &[u8], runs: &[(u32, u32, u32)]) -> Given {
+    (Planned { number: 0, place: 0, kept, discarded, runs: runs.len() }, marks.to_vec(), runs.to_vec())
+}
+
+/// A refusal of a file of n tasks, which leaves the marks as they were.
+fn refused(number: u32, place: usize, n: usize) -> Given {
+    (Planned { number, place, kept: 0, discarded: 0, runs: 0 }, vec![9; n], vec![])
+}
+
+/// Planning of files with names and what they give at launch 0, by both sides at many launch ticks.
+fn planned_samples(plans: &[(&str, Vec<u8>, Given)], planners: &[Named<Plan>; 2]) -> Result<usize, String> {
+    let launches = [0, 1, NOON, MAX_LAUNCH, MAX_LAUNCH + 1, u32::MAX];
+    for (name, file, at_0) in plans {
+        for launch in launches {
+            // Each run lies later by the launch tick. 14 comes behind what reading refuses, here 6, 7 and 16, and before 8.
+            let expected = if launch > MAX_LAUNCH && !matches!(at_0.0.number, 6 | 7 | 16) {
+                refused(14, 0, at_0.1.len())
+            } else {
+                (at_0.0, at_0.1.clone(), at_0.2.iter().map(|&(start, end, task)| (start + launch, end + launch, task)).collect())
+            };
+            for (planner, plan) in planners {
+                let what = format!("{name} at launch {launch}, {planner} and the rules");
+                same(&what, &plan_with(plan, file, launch, at_0.1.len()), &expected, || hex(file))?;
+            }
+        }
+    }
+    Ok(planners.len() * plans.len() * launches.len())
+}
 
 /// The samples of the rules that a plan or a move shows: the releases of P1 to P3 and the deadline of P2, P4 to P12, empty windows, the limits on the
 /// count, and launch ticks.
 pub fn samples() -> Result<usize, String> {
     type Fields<'a> = &'a [(u32, u32, u32, u32)];
-    type Runs<'a> = &'a [(u32, u32, u32)];
     let file = |p, q, tasks: Fields| {
         let mut table = Table { count: tasks.len() as u32, p, q, ..Table::ZERO };
         for (place, &(release, deadline, mandatory, optional)) in table.tasks.iter_mut().zip(tasks) {
@@ -22,10 +57,6 @@ pub fn samples() -> Result<usize, String> {
         inputs::pack(&table)
     };
     let three: Fields = &[(0, 10, 2, 3), (2, 8, 1, 3), (4, 6, 1, 1)];
-    let planned = |kept, discarded, marks: &[u8], runs: Runs| {
-        (Planned { number: 0, place: 0, kept, discarded, runs: runs.len() }, marks.to_vec(), runs.to_vec())
-    };
-    let refused = |number, place, n: usize| (Planned { number, place, kept: 0, discarded: 0, runs: 0 }, vec![9; n], vec![]);
     let four = [0x02, 0x0c, 0x80, 0x02, 0x00, 0x00, 0x00, 0x01, 0x00, 0xc8, 0x01, 0x90];
     let plans = [
         // These similar tasks begin at their releases, and the nested one ends at its deadline.
@@ -64,21 +95,7 @@ pub fn samples() -> Result<usize, String> {
         ("place of 7", file(1, 1, &[(0, 5, 0, 0), (5, 9, 0, 0), (1, 4, 0, 0)]), refused(7, 2, 3)),
         ("place of 7, nested first", file(1, 1, &[(0, 5, 0, 0), (1, 4, 0, 0), (0, 5, 0, 0), (5, 9, 0, 0)]), refused(7, 3, 4)),
     ];
-    let launches = [0, 1, NOON, MAX_LAUNCH, MAX_LAUNCH + 1, u32::MAX];
-    for (name, file, at_0) in &plans {
-        for launch in launches {
-            // The plans stand for launch 0; each run lies later by the launch tick. 14 comes behind what reading refuses, here 7, and before 8.
-            let expected = if launch > MAX_LAUNCH && at_0.0.number != 7 {
-                refused(14, 0, at_0.1.len())
-            } else {
-                (at_0.0, at_0.1.clone(), at_0.2.iter().map(|&(start, end, task)| (start + launch, end + launch, task)).collect())
-            };
-            for (planner, plan) in PLANNERS {
-                let what = format!("{name} at launch {launch}, {planner} and the rules");
-                same(&what, &plan_with(plan, file, launch, at_0.1.len()), &expected, || hex(file))?;
-            }
-        }
-    }
+    let planned = planned_samples(&plans, &PLANNERS)?;
     let eight = file(1, 1, three);
     let judgements = judged_samples(&eight, &file(5, 4, &[(1, 2, 1, 0)]))?;
     let moved = Written { number: 10, place: 0, bytes: 0 };
@@ -89,7 +106,7 @@ pub fn samples() -> Result<usize, String> {
     let mut over = vec![0; 508];
     over[0] = 65 << 1;
     same("65 give 2", &(ffi::read(&over).number, ffi::read(&over).place), &(2, 0), || hex(&over))?;
-    Ok(2 * plans.len() * launches.len() + judgements + 4 + queried_samples()?)
+    Ok(planned + judgements + 4 + queried_samples()? + weighted::samples()?)
 }
 
 /// The runs of P8's plan at launch 0.

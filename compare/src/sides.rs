@@ -1,18 +1,27 @@
 //! Both sides, the proved library and the reference, with replies as the C interface has them.
 
 use crate::ffi::{self, BusyCount, Checked, Found, Judged, Part, Planned};
-use crate::reference::{self, Run};
+use crate::reference::{self, weighted, Run};
+
+/// A side with its name.
+pub type Named<T> = (&'static str, T);
 
 /// A planner.
 pub type Plan<'a> = &'a dyn Fn(&[u8], u32, &mut [u8], &mut [u32], &mut [u32], &mut [u32]) -> Planned;
 
-pub const PLANNERS: [(&str, Plan); 2] =
-    [("proved library", &ffi::plan), ("reference", &|f, l, m, s, e, t| Planned::from(reference::plan(f, l, m, s, e, t)))];
+pub const REFERENCE_PLANNER: Named<Plan> = ("reference", &|f, l, m, s, e, t| Planned::from(reference::plan(f, l, m, s, e, t)));
+pub const PLANNERS: [Named<Plan>; 2] = [("proved library", &ffi::plan), REFERENCE_PLANNER];
+
+// The planners of weighted tables.
+pub const WEIGHTED_REFERENCE_PLANNER: Named<Plan> = ("reference", &|f, l, m, s, e, t| Planned::from(weighted::plan(f, l, m, s, e, t)));
+pub const WEIGHTED_PLANNERS: [Named<Plan>; 2] = [("proved library", &ffi::weighted_plan), WEIGHTED_REFERENCE_PLANNER];
 
 /// A judge.
 pub type Judge<'a> = &'a dyn Fn(&[u8], u32, &[u8], &[Run]) -> Judged;
 
-pub const JUDGES: [(&str, Judge); 2] = [("proved library", &ffi::judge), ("reference", &|f, l, m, r| Judged::from(reference::judge(f, l, m, r)))];
+pub const JUDGES: [Named<Judge>; 2] = [("proved library", &ffi::judge), ("reference", &|f, l, m, r| Judged::from(reference::judge(f, l, m, r)))];
+pub const WEIGHTED_JUDGES: [Named<Judge>; 2] =
+    [("proved library", &ffi::weighted_judge), ("reference", &|f, l, m, r| Judged::from(weighted::judge(f, l, m, r)))];
 
 /// What a run list alone is asked for.
 pub struct RunLists {

@@ -1,22 +1,22 @@
 //! Small inputs, for which brute force tells what is right: both sides against it.
 
-use crate::brute::{self, Board};
-use crate::cases::plan_came;
+use crate::brute::{self, Answer, Board, Runnings};
+use crate::cases::{plan_came, weighted};
 use crate::difference::{hex, same};
 use crate::ffi::{BusyCount, Checked, Found, Part, Planned};
 use crate::inputs::{self, Load, Shape};
 use crate::random::Random;
 use crate::reference::{Run, Table};
-use crate::sides::{plan_with, PLANNERS, RUN_LISTS};
+use crate::sides::{plan_with, Named, Plan, PLANNERS, RUN_LISTS, WEIGHTED_PLANNERS};
 use crate::tally::{Came, Outcome};
 
-/// A small table with few ticks, of either kind, of both or of neither.
-fn small_table(random: &mut Random) -> Table {
+/// A small table of so many tasks at most, with few ticks: of one of the shapes, or of neither kind.
+fn small_table(random: &mut Random, most: u32, shapes: &[Shape]) -> Table {
     loop {
-        let n = random.between(1, 8) as usize;
+        let n = random.between(1, most) as usize;
         let q = random.between(1, 4);
         let p = random.between(q, 3 * q);
-        let shape = random.pick(&[Shape::Nested, Shape::Similar, Shape::Similar, Shape::Both]);
+        let shape = random.pick(shapes);
         let load = random.pick(&[Load::Tight, Load::Few, Load::Few, Load::Any]);
         let mut table = inputs::shaped_table(random, n, (p, q), shape, load);
         if random.once_in(8) {
@@ -42,12 +42,51 @@ fn small_table(random: &mut Random) -> Table {
 
 /// The planner, the reference and brute force over all keep lists.
 pub fn plan(random: &mut Random) -> Outcome {
-    let table = small_table(random);
+    plan_by(random, &PLANNERS)
+}
+
+/// Planners and brute force over all keep lists.
+fn plan_by(random: &mut Random, planners: &[Named<Plan>]) -> Outcome {
+    let table = small_table(random, 8, &[Shape::Nested, Shape::Similar, Shape::Similar, Shape::Both]);
     let launch = inputs::launch(random);
     let file = inputs::pack(&table);
-    let n = table.count as usize;
-    let input = || format!("launch {launch}, {}", hex(&file));
-    let best = brute::best(&table, launch).map_err(|what| format!("brute force: the rules differ about {what}\n  {}", input()))?;
+    let (said, _) = plan_as(planners, &file, launch, table.count as usize, brute::best(&table, launch))?;
+    Ok(plan_came(&file, said))
+}
+
+/// The planner, the reference and brute force over all keep lists of a weighted table, and over all runnings of the smallest.
+pub fn weighted_plan(random: &mut Random) -> Outcome {
+    weighted_plan_by(random, &WEIGHTED_PLANNERS)
+}
+
+/// Planners and brute force over all keep lists of a weighted table, and over all runnings of the smallest.
+fn weighted_plan_by(random: &mut Random, planners: &[Named<Plan>]) -> Outcome {
+    let most = random.pick(&[3, 8]);
+    let table = small_table(random, most, &[Shape::Nested, Shape::Nested, Shape::Nested, Shape::Both]);
+    let weighted = inputs::weighted::with_weights(random, table);
+    let launch = inputs::launch(random);
+    let file = inputs::weighted::pack(&weighted);
+    let (said, marks) = plan_as(planners, &file, launch, table.count as usize, brute::best_weighted(&weighted, launch))?;
+    let came = weighted::plan_came(said);
+    if said.number != 0 && said.number != 8 {
+        return Ok(came);
+    }
+    let found = brute::runnings(&weighted, launch);
+    if found == Runnings::TooMany {
+        return Ok(came);
+    }
+    // The weight that the planner discards is taken from its keep list. A part of 0 ticks weighs nothing.
+    let is_discarded = |&k: &usize| table.tasks[k].optional > 0 && marks[k] == 0;
+    let discarded = (0..marks.len()).filter(is_discarded).map(|k| weighted.weights[k]).sum();
+    let owed = if said.number == 0 { Runnings::Discard(discarded) } else { Runnings::None };
+    same("plan (above) and all runnings (below)", &owed, &found, || format!("launch {launch}, {}", hex(&file)))?;
+    Ok(Came { apart: Some("all runnings tried"), ..came })
+}
+
+/// Planning by planners, all of them as brute force says: the reply and the marks.
+fn plan_as(planners: &[Named<Plan>], file: &[u8], launch: u32, n: usize, best: Result<Answer, String>) -> Result<(Planned, Vec<u8>), String> {
+    let input = || format!("launch {launch}, {}", hex(file));
+    let best = best.map_err(|what| format!("brute force: the rules differ about {what}\n  {}", input()))?;
     let (marks, runs, expected) = match best {
         Ok(best) => {
             let said = Planned { number: 0, place: 0, kept: best.kept, discarded: best.discarded, runs: best.runs.len() };
@@ -55,8 +94,8 @@ pub fn plan(random: &mut Random) -> Outcome {
         }
         Err((number, place)) => (vec![9; n], vec![], Planned { number, place, kept: 0, discarded: 0, runs: 0 }),
     };
-    for (name, plan) in PLANNERS {
-        let (said, got_marks, got_runs) = plan_with(plan, &file, launch, n);
+    for (name, plan) in planners {
+        let (said, got_marks, got_runs) = plan_with(plan, file, launch, n);
         if (said, &got_marks, &got_runs) != (expected, &marks, &runs) {
             return Err(format!(
                 "{name} and brute force\n  {name}: {said:?} {got_marks:?} {got_runs:?}\n  brute force: {expected:?} {marks:?} {runs:?}\n  {}",
@@ -64,7 +103,7 @@ pub fn plan(random: &mut Random) -> Outcome {
             ));
         }
     }
-    Ok(plan_came(&file, expected))
+    Ok((expected, marks))
 }
 
 /// The ticks that short run lists lie in.
@@ -103,4 +142,32 @@ pub fn queries(random: &mut Random) -> Outcome {
         }
     }
     Ok(Came::to(number, "accepted"))
+}
+
+#[cfg(test)]
+mod tests {
+    use super::*;
+    use crate::sides::{REFERENCE_PLANNER, WEIGHTED_REFERENCE_PLANNER};
+    use crate::tally::{Comparison, Tally};
+
+    // The reference and brute force alone: these need no library.
+
+    /// Tables without weights.
+    #[test]
+    fn plans_of_reference() {
+        all("brute", |random| plan_by(random, &[REFERENCE_PLANNER]));
+    }
+
+    /// Weighted tables.
+    #[test]
+    fn weighted_plans_of_reference() {
+        all("brute-weighted", |random| weighted_plan_by(random, &[WEIGHTED_REFERENCE_PLANNER]));
+    }
+
+    /// Many cases without a difference.
+    fn all(name: &'static str, one: fn(&mut Random) -> Outcome) {
+        let cases = 4_000;
+        let tally = Tally::of(&[Comparison { name, cases, one }], 0, 0..cases).expect("no difference");
+        println!("{name}: {}", tally.words());
+    }
 }

@@ -1,8 +1,10 @@
 //! How much stack a call of the proved library uses: it is run on an area of its own, painted beforehand, and the lowest byte that changed is found.
 //! x86-64 only, as the archive is.
 
-use crate::ffi::{self, BusyCount, Found, Judged, Planned, TableRead, Written};
+use crate::ffi::{self, BusyCount, Found, Judged, Planned, TableRead, WeightedTableRead, Written};
+use crate::reference::weighted::WeightedTable;
 use crate::reference::{Run, Table};
+use crate::tables::Lists;
 use std::arch::asm;
 use std::mem::MaybeUninit;
 
@@ -52,18 +54,42 @@ unsafe fn call(function: usize, registers: [usize; 6], on_stack: &[u64]) -> Use 
 
 /// The stack of reading.
 pub fn read(file: &[u8]) -> Use {
-    let mut reply = MaybeUninit::<TableRead>::uninit();
-    let registers = [reply.as_mut_ptr() as usize, file.as_ptr() as usize, file.len(), 0, 0, 0];
-    unsafe { call(ffi::addresses().read, registers, &[]) }
+    unsafe { read_by::<TableRead>(ffi::addresses().read, file) }
+}
+
+/// The stack of reading of a weighted table.
+pub fn weighted_read(file: &[u8]) -> Use {
+    unsafe { read_by::<WeightedTableRead>(ffi::addresses().weighted_read, file) }
+}
+
+/// The stack of reading.
+///
+/// # Safety
+/// The function takes a file and replies so.
+unsafe fn read_by<Reply>(function: usize, file: &[u8]) -> Use {
+    let mut reply = MaybeUninit::<Reply>::uninit();
+    call(function, [reply.as_mut_ptr() as usize, file.as_ptr() as usize, file.len(), 0, 0, 0], &[])
+}
+
+/// The stack of writing.
+pub fn write(table: &Table, out: &mut [u8]) -> Use {
+    unsafe { write_by(ffi::addresses().write, table, out) }
+}
+
+/// The stack of writing of a weighted table.
+pub fn weighted_write(table: &WeightedTable, out: &mut [u8]) -> Use {
+    unsafe { write_by(ffi::addresses().weighted_write, table, out) }
 }
 
 /// The stack of writing; the table is passed in memory.
-pub fn write(table: &Table, out: &mut [u8]) -> Use {
+///
+/// # Safety
+/// The function is the writing of tables of this type, which has no padding.
+unsafe fn write_by<T>(function: usize, table: &T, out: &mut [u8]) -> Use {
     let mut reply = MaybeUninit::<Written>::uninit();
-    let mut words = [0u64; size_of::<Table>().div_ceil(8)];
-    unsafe { std::ptr::copy_nonoverlapping((table as *const Table).cast::<u8>(), words.as_mut_ptr().cast::<u8>(), size_of::<Table>()) };
-    let registers = [reply.as_mut_ptr() as usize, out.as_mut_ptr() as usize, out.len(), 0, 0, 0];
-    unsafe { call(ffi::addresses().write, registers, &words) }
+    let mut words = vec![0u64; size_of::<T>().div_ceil(8)];
+    std::ptr::copy_nonoverlapping((table as *const T).cast::<u8>(), words.as_mut_ptr().cast::<u8>(), size_of::<T>());
+    call(function, [reply.as_mut_ptr() as usize, out.as_mut_ptr() as usize, out.len(), 0, 0, 0], &words)
 }
 
 /// The stack of moving.
@@ -73,20 +99,46 @@ pub fn shift(file: &[u8], frames: i32, out: &mut [u8]) -> Use {
     unsafe { call(ffi::addresses().shift, registers, &[]) }
 }
 
+/// The stack of planning.
+pub fn plan(file: &[u8], launch: u32, lists: &mut Lists) -> Use {
+    unsafe { plan_by(ffi::addresses().plan, file, launch, lists) }
+}
+
+/// The stack of planning of a weighted table.
+pub fn weighted_plan(file: &[u8], launch: u32, lists: &mut Lists) -> Use {
+    unsafe { plan_by(ffi::addresses().weighted_plan, file, launch, lists) }
+}
+
 /// The stack of planning; the columns are passed in memory.
-pub fn plan(file: &[u8], launch: u32, marks: &mut [u8], starts: &mut [u32], ends: &mut [u32], tasks: &mut [u32]) -> Use {
+///
+/// # Safety
+/// The function is a planning.
+unsafe fn plan_by(function: usize, file: &[u8], launch: u32, Lists { marks, starts, ends, tasks }: &mut Lists) -> Use {
     let mut reply = MaybeUninit::<Planned>::uninit();
     let registers = [reply.as_mut_ptr() as usize, file.as_ptr() as usize, file.len(), launch as usize, marks.as_mut_ptr() as usize, marks.len()];
     let words =
         [starts.as_mut_ptr() as u64, starts.len() as u64, ends.as_mut_ptr() as u64, ends.len() as u64, tasks.as_mut_ptr() as u64, tasks.len() as u64];
-    unsafe { call(ffi::addresses().plan, registers, &words) }
+    call(function, registers, &words)
+}
+
+/// The stack of judging.
+pub fn judge(file: &[u8], launch: u32, marks: &[u8], runs: &[Run]) -> Use {
+    unsafe { judge_by(ffi::addresses().judge, file, launch, marks, runs) }
+}
+
+/// The stack of judging of a weighted table.
+pub fn weighted_judge(file: &[u8], launch: u32, marks: &[u8], runs: &[Run]) -> Use {
+    unsafe { judge_by(ffi::addresses().weighted_judge, file, launch, marks, runs) }
 }
 
 /// The stack of judging; the run list is passed in memory.
-pub fn judge(file: &[u8], launch: u32, marks: &[u8], runs: &[Run]) -> Use {
+///
+/// # Safety
+/// The function is a judge.
+unsafe fn judge_by(function: usize, file: &[u8], launch: u32, marks: &[u8], runs: &[Run]) -> Use {
     let mut reply = MaybeUninit::<Judged>::uninit();
     let registers = [reply.as_mut_ptr() as usize, file.as_ptr() as usize, file.len(), launch as usize, marks.as_ptr() as usize, marks.len()];
-    unsafe { call(ffi::addresses().judge, registers, &[runs.as_ptr() as u64, runs.len() as u64]) }
+    call(function, registers, &[runs.as_ptr() as u64, runs.len() as u64])
 }
 
 /// The stack of the busy count.

@@ -3,7 +3,9 @@
 use crate::ffi::{Planned, Planning};
 use crate::inputs;
 use crate::random::Random;
-use crate::reference::{self, Run, Table, Task, MAX_RUNS};
+use crate::reference::weighted::{self, WeightedTable, MAX_WEIGHT};
+use crate::reference::{self, Run, Table, Task, MAX_RUNS, MAX_TASKS};
+use std::array;
 
 /// The launch tick of every plan and judgement.
 pub const LAUNCH: u32 = 0;
@@ -90,6 +92,36 @@ pub fn full() -> [(&'static str, Table); 7] {
     ]
 }
 
+/// Mandatory parts take half of the ticks, and of optional parts that weigh 1 to 15 half of the weight does not fit.
+fn heavy(n: usize) -> Table {
+    nest(n, |i| (80 + i * 7 % 41, 218 + i * 37 % 211))
+}
+
+/// A table with weights from 1 to 15 in turn. Its positions are shuffled, so they are mixed.
+fn mixed(table: Table) -> WeightedTable {
+    WeightedTable { table, weights: array::from_fn(|k| 1 + k as u32 % MAX_WEIGHT) }
+}
+
+/// A table whose tasks all have this weight.
+fn equal(table: Table, weight: u32) -> WeightedTable {
+    WeightedTable { table, weights: [weight; MAX_TASKS] }
+}
+
+/// n tasks with weights from 1 to 15, of which about half is dropped.
+pub fn weighted_tight(n: usize) -> WeightedTable {
+    mixed(heavy(n))
+}
+
+/// The weighted tables of 64 tasks whose planning is measured, with their names.
+pub fn weighted_full() -> [(&'static str, WeightedTable); 4] {
+    [
+        ("weights 1 to 15, everything fits", mixed(loose(64))),
+        ("weights 1 to 15, half dropped", weighted_tight(64)),
+        ("all weights 15, half dropped", equal(tight(64), MAX_WEIGHT)),
+        ("all weights 1, half dropped", equal(tight(64), 1)),
+    ]
+}
+
 /// Lists to lend, never cleared between calls.
 #[derive(Clone, Debug, PartialEq, Eq)]
 pub struct Lists {
@@ -117,6 +149,15 @@ impl Lists {
 pub fn summary(said: &Planned) -> String {
     assert_eq!(said.number, 0);
     format!("kept {}, discarded {}, {} runs", said.kept, said.discarded, said.runs)
+}
+
+/// What a plan of a weighted table with these marks comes to, in words: the weight that it drops, and its runs.
+pub fn weighted_summary(weighted: &WeightedTable, said: &Planned, marks: &[u8]) -> String {
+    assert_eq!(said.number, 0);
+    let parts = || (0..weighted.table.count as usize).filter(|&k| weighted.table.tasks[k].optional > 0);
+    let all: u32 = parts().map(|k| weighted.weights[k]).sum();
+    let dropped: u32 = parts().filter(|&k| marks[k] == 0).map(|k| weighted.weights[k]).sum();
+    format!("weight {dropped} of {all} dropped, {} runs", said.runs)
 }
 
 /// A run list as three columns: the form that a library takes which doesn't take records.
@@ -151,11 +192,19 @@ pub struct Finished {
 }
 
 impl Finished {
-    /// A finished plan of a table.
-    fn new(table: &Table, marks: Vec<u8>, runs: Vec<Run>) -> Finished {
+    /// A finished plan of a file's table.
+    fn new(file: Vec<u8>, marks: Vec<u8>, runs: Vec<Run>) -> Finished {
         let mut columns = Columns::places(runs.len());
         columns.copy(&runs);
-        Finished { file: inputs::pack(table), marks, runs, columns }
+        Finished { file, marks, runs, columns }
+    }
+
+    /// A file of 64 tasks, planned by the reference, so that no call of a library is counted that is not to be measured.
+    fn planned(file: Vec<u8>, plan: reference::Planning) -> Finished {
+        let Lists { mut marks, mut starts, mut ends, mut tasks } = Lists::default();
+        let said = plan(&file, LAUNCH, &mut marks, &mut starts, &mut ends, &mut tasks).expect("a plan");
+        let runs = (0..said.runs).map(|i| Run { start: starts[i], end: ends[i], task: tasks[i] }).collect();
+        Finished::new(file, marks, runs)
     }
 
     /// A tick that a run in the middle holds.
@@ -170,13 +219,14 @@ impl Finished {
     }
 }
 
-/// 64 tasks in 127 runs, as planned. The reference plans here, so that no call of a library is counted that is not to be measured.
+/// 64 tasks in 127 runs, as planned.
 pub fn planned_runs() -> Finished {
-    let table = most_runs(64);
-    let Lists { mut marks, mut starts, mut ends, mut tasks } = Lists::default();
-    let plan = reference::plan(&inputs::pack(&table), LAUNCH, &mut marks, &mut starts, &mut ends, &mut tasks).expect("a plan");
-    let runs = (0..plan.runs).map(|i| Run { start: starts[i], end: ends[i], task: tasks[i] }).collect();
-    Finished::new(&table, marks, runs)
+    Finished::planned(inputs::pack(&most_runs(64)), reference::plan)
+}
+
+/// The same table with weights, which has the same plan.
+pub fn weighted_planned_runs() -> Finished {
+    Finished::planned(inputs::weighted::pack(&mixed(most_runs(64))), weighted::plan)
 }
 
 /// One task in 4,096 runs of one tick, two ticks apart.
@@ -185,5 +235,5 @@ pub fn many_runs() -> Finished {
     let table = table(&[Task { release: 0, deadline: 200, mandatory: ticks, optional: 0 }]);
     let first = table.clock(LAUNCH).release(0);
     let runs = (0..ticks).map(|i| Run { start: first + 3 * i, end: first + 3 * i + 1, task: 0 }).collect();
-    Finished::new(&table, vec![1], runs)
+    Finished::new(inputs::pack(&table), vec![1], runs)
 }

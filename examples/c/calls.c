@@ -1,6 +1,7 @@
 /* Each call of the planner through the header, accepted and refused. Prints every part of the replies. */
 #include <inttypes.h>
 #include <stdio.h>
+#include <string.h>
 
 #include "planner.h"
 
@@ -20,6 +21,17 @@ static const struct planner_table turns = {
     .tasks = {{0, 6, 2, 3}, {3, 9, 2, 3}, {7, 12, 1, 2}},
 };
 
+/* Three nested tasks with weights: frames 0 to 10, mandatory 2, optional 5, weight 6; 2 to 9, 1, 3 and 3; 4 to 7, 1, 1 and 2. The work with all parts
+   comes to 13 ticks, and the outermost window has 9: the part of task 0 must go, of weight 6, or those of tasks 1 and 2, which weigh 5 together. */
+static const struct planner_weighted_table levels = {
+    .table = {.count = 3, .p = 1, .q = 1, .tasks = {{0, 10, 2, 5}, {2, 9, 1, 3}, {4, 7, 1, 1}}},
+    .weights = {6, 3, 2},
+};
+
+/* Its file: 31 bits of header, 66 bits for each task and 3 bits of padding. In the last byte 1 bit is the end of the optional ticks, 4 are the weight. */
+static const uint8_t levels_file[] = {0x06, 0x00, 0x20, 0x02, 0x00, 0x00, 0x00, 0x05, 0x00, 0x04, 0x00, 0x2B, 0x00, 0x00, 0x80,
+                                      0x01, 0x20, 0x00, 0x80, 0x06, 0x60, 0x00, 0x40, 0x00, 0x38, 0x00, 0x20, 0x00, 0x90};
+
 /* Noon, in ticks of the day: 12 hours of 3600000. */
 static const uint32_t noon = 43200000;
 
@@ -38,6 +50,22 @@ static void show_read(const char *what, struct planner_table_read reply)
         struct planner_task task = reply.table.tasks[k];
         if (k < reply.table.count || task.release != 0 || task.deadline != 0 || task.mandatory != 0 || task.optional != 0) {
             printf(", %" PRIu32 " %" PRIu32 " %" PRIu32 " %" PRIu32, task.release, task.deadline, task.mandatory, task.optional);
+        }
+    }
+    printf("\n");
+}
+
+/* The reply of reading a weighted table, likewise: a weight stands behind its task. */
+static void show_weighted_read(const char *what, struct planner_weighted_table_read reply)
+{
+    struct planner_table table = reply.table.table;
+
+    printf("%s: %" PRIu32 " %zu, %" PRIu32 " %" PRIu32 " %" PRIu32, what, reply.number, reply.place, table.count, table.p, table.q);
+    for (uint32_t k = 0; k < PLANNER_MAX_TASKS; k++) {
+        struct planner_task task = table.tasks[k];
+        uint32_t weight = reply.table.weights[k];
+        if (k < table.count || task.release != 0 || task.deadline != 0 || task.mandatory != 0 || task.optional != 0 || weight != 0) {
+            printf(", %" PRIu32 " %" PRIu32 " %" PRIu32 " %" PRIu32 " %" PRIu32, task.release, task.deadline, task.mandatory, task.optional, weight);
         }
     }
     printf("\n");
@@ -108,8 +136,8 @@ static void show_part(const char *what, struct planner_part reply)
     printf("%s: %zu %zu\n", what, reply.first, reply.runs);
 }
 
-/* The file of three tasks, and the lists of a plan of three tasks. */
-enum { FILE_BYTES = PLANNER_FILE_LENGTH(3), RUNS = PLANNER_PLAN_RUNS(3) };
+/* The file of three tasks, plain and weighted, and the lists of a plan of three tasks. */
+enum { FILE_BYTES = PLANNER_FILE_LENGTH(3), WEIGHTED_BYTES = PLANNER_WEIGHTED_FILE_LENGTH(3), RUNS = PLANNER_PLAN_RUNS(3) };
 
 struct plan_lists {
     uint8_t marks[3];
@@ -120,6 +148,13 @@ struct plan_lists {
 static void plan_and_show(const char *what, const uint8_t *file, uint32_t launch, struct plan_lists *l)
 {
     struct planner_planned reply = planner_plan(file, FILE_BYTES, launch, l->marks, 3, l->starts, RUNS, l->ends, RUNS, l->tasks, RUNS);
+    show_planned(what, reply, l->marks, l->starts, l->ends, l->tasks);
+}
+
+/* The same of a weighted file. */
+static void weighted_plan_and_show(const char *what, const uint8_t *file, uint32_t launch, struct plan_lists *l)
+{
+    struct planner_planned reply = planner_weighted_plan(file, WEIGHTED_BYTES, launch, l->marks, 3, l->starts, RUNS, l->ends, RUNS, l->tasks, RUNS);
     show_planned(what, reply, l->marks, l->starts, l->ends, l->tasks);
 }
 
@@ -195,6 +230,81 @@ static void query_calls(const struct plan_lists *l)
     show_part("touching 10 to 20", planner_runs_touching(runs, RUNS, 10, 20));
 }
 
+/* Writing a weighted table, and what writing it refuses; `file` then holds the table `levels`. */
+static void weighted_write_calls(uint8_t *file)
+{
+    struct planner_weighted_table other = levels;
+
+    show_written("weighted write", planner_weighted_write(levels, file, WEIGHTED_BYTES));
+    printf("bytes of the weighted file: %s\n", memcmp(file, levels_file, sizeof levels_file) == 0 ? "as they should be" : "others");
+    show_written("weighted write into a byte less", planner_weighted_write(levels, file, WEIGHTED_BYTES - 1));
+    other.weights[1] = PLANNER_MAX_WEIGHT + 1;
+    show_written("weighted write of weight 16", planner_weighted_write(other, file, WEIGHTED_BYTES));
+    other.table.tasks[2].optional = PLANNER_MAX_TICKS + 1;
+    show_written("weighted write of weight 16 and a wide field", planner_weighted_write(other, file, WEIGHTED_BYTES));
+    other.table = turns;
+    other.weights[1] = 1;
+    show_written("weighted write of similar windows", planner_weighted_write(other, file, WEIGHTED_BYTES));
+}
+
+/* Reading weighted tables, and a file of the one form as the other. */
+static void weighted_read_calls(const uint8_t *file, const uint8_t *plain)
+{
+    uint8_t other[WEIGHTED_BYTES];
+
+    show_weighted_read("weighted read", planner_weighted_read(file, WEIGHTED_BYTES));
+    show_weighted_read("weighted read of a byte less", planner_weighted_read(file, WEIGHTED_BYTES - 1));
+    memcpy(other, file, sizeof other);
+    other[WEIGHTED_BYTES - 1] = 0x80;
+    show_weighted_read("weighted read of weight 0", planner_weighted_read(other, sizeof other));
+    show_weighted_read("weighted read of a plain file", planner_weighted_read(plain, FILE_BYTES));
+    show_read("read a weighted file", planner_read(file, WEIGHTED_BYTES));
+}
+
+/* Planning by weight, at launch 0 and at noon; and with equal weights, where the plan is that of the plain table. */
+static void weighted_plan_calls(const uint8_t *file, struct plan_lists *l, struct plan_lists *equal)
+{
+    uint8_t other[WEIGHTED_BYTES], plain[FILE_BYTES];
+    struct plan_lists at_noon, unweighted;
+    struct planner_weighted_table lighter = levels;
+
+    weighted_plan_and_show("weighted plan", file, 0, l);
+    weighted_plan_and_show("weighted plan at launch 43200000", file, noon, &at_noon);
+    show_unplanned("weighted plan with 2 marks",
+                   planner_weighted_plan(file, WEIGHTED_BYTES, 0, l->marks, 2, l->starts, RUNS, l->ends, RUNS, l->tasks, RUNS));
+    show_unplanned("weighted plan at launch 86400000",
+                   planner_weighted_plan(file, WEIGHTED_BYTES, PLANNER_MAX_LAUNCH + 1, l->marks, 3, l->starts, RUNS, l->ends, RUNS, l->tasks, RUNS));
+
+    /* A tie: weight 5 goes either way. The parts of tasks 1 and 2 have 4 ticks, that of task 0 has 5, and the least kept ticks decide. */
+    lighter.weights[0] = 5;
+    show_written("weighted write of weight 5", planner_weighted_write(lighter, other, sizeof other));
+    weighted_plan_and_show("weighted plan of weight 5", other, 0, equal);
+
+    lighter.weights[0] = lighter.weights[1] = lighter.weights[2] = 1;
+    show_written("weighted write of weights 1", planner_weighted_write(lighter, other, sizeof other));
+    weighted_plan_and_show("weighted plan of weights 1", other, 0, equal);
+    show_written("write without weights", planner_write(levels.table, plain, sizeof plain));
+    plan_and_show("plan without weights", plain, 0, &unweighted);
+}
+
+/* Judging by a weighted table: the plan by weight, and that of other weights, which gets a yes too. */
+static void weighted_judge_calls(const uint8_t *file, const struct plan_lists *l, const struct plan_lists *equal)
+{
+    static struct planner_run many[PLANNER_MAX_RUNS + 1];
+    struct planner_run runs[RUNS], equal_runs[RUNS];
+
+    records_of(runs, RUNS, l->starts, l->ends, l->tasks);
+    show_judged("weighted judge", planner_weighted_judge(file, WEIGHTED_BYTES, 0, l->marks, 3, runs, RUNS));
+    show_judged("weighted judge without the last run", planner_weighted_judge(file, WEIGHTED_BYTES, 0, l->marks, 3, runs, RUNS - 1));
+    show_judged("weighted judge at launch 43200000", planner_weighted_judge(file, WEIGHTED_BYTES, noon, l->marks, 3, runs, RUNS));
+    records_of(equal_runs, RUNS, equal->starts, equal->ends, equal->tasks);
+    show_judged("weighted judge of the plan of weights 1", planner_weighted_judge(file, WEIGHTED_BYTES, 0, equal->marks, 3, equal_runs, RUNS));
+
+    show_judged("weighted judge at launch 86400000", planner_weighted_judge(file, WEIGHTED_BYTES, PLANNER_MAX_LAUNCH + 1, l->marks, 3, runs, RUNS));
+    show_judged("weighted judge with 2 marks", planner_weighted_judge(file, WEIGHTED_BYTES, 0, l->marks, 2, runs, RUNS));
+    show_judged("weighted judge of 4097 runs", planner_weighted_judge(file, WEIGHTED_BYTES, 0, l->marks, 3, many, PLANNER_MAX_RUNS + 1));
+}
+
 /* Run lists that are refused: too many runs, and runs that overlap. */
 static void refused_runs(const uint8_t *file, const uint8_t *marks)
 {
@@ -212,16 +322,20 @@ static void refused_runs(const uint8_t *file, const uint8_t *marks)
     show_part("touching 0 to 9 of runs that overlap", planner_runs_touching(overlapping, 2, 0, 9));
 }
 
-/* The calls, one after another, on the two tables. */
+/* The calls, one after another, on the three tables. */
 int main(void)
 {
-    uint8_t file[FILE_BYTES];
-    struct plan_lists lists, at_noon;
+    uint8_t file[FILE_BYTES], weighted[WEIGHTED_BYTES];
+    struct plan_lists lists, at_noon, by_weight, equal;
 
     file_calls(file);
     plan_calls(file, &lists, &at_noon);
     judge_calls(file, &lists, &at_noon);
     query_calls(&lists);
     refused_runs(file, lists.marks);
+    weighted_write_calls(weighted);
+    weighted_read_calls(weighted, file);
+    weighted_plan_calls(weighted, &by_weight, &equal);
+    weighted_judge_calls(weighted, &by_weight, &equal);
     return 0;
 }

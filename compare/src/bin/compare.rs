@@ -7,7 +7,7 @@ use planner_compare::{cases, samples, small};
 use std::process::ExitCode;
 use std::time::Instant;
 
-const COMPARISONS: [Comparison; 10] = [
+const COMPARISONS: [Comparison; 17] = [
     Comparison { name: "read", cases: 150_000, one: cases::read },
     Comparison { name: "write", cases: 100_000, one: cases::write },
     Comparison { name: "shift", cases: 100_000, one: cases::shift },
@@ -18,20 +18,27 @@ const COMPARISONS: [Comparison; 10] = [
     Comparison { name: "queries", cases: 60_000, one: cases::queries },
     Comparison { name: "brute", cases: 40_000, one: small::plan },
     Comparison { name: "brute-runs", cases: 20_000, one: small::queries },
+    Comparison { name: "weighted-read", cases: 80_000, one: cases::weighted::read },
+    Comparison { name: "weighted-write", cases: 60_000, one: cases::weighted::write },
+    Comparison { name: "weighted-plan", cases: 120_000, one: cases::weighted::plan },
+    Comparison { name: "weighted-judge", cases: 80_000, one: cases::weighted::judge },
+    Comparison { name: "weighted-long", cases: 400, one: cases::weighted::judge_long },
+    Comparison { name: "weighted-ones", cases: 40_000, one: cases::weighted::ones },
+    Comparison { name: "brute-weighted", cases: 40_000, one: small::weighted_plan },
 ];
 
 /// The samples, run lists of all lengths, and all cases of every call; prints a line for each.
 fn all() -> Result<(), String> {
     let begun = Instant::now();
-    println!("{:<10} {:>7} cases, no difference", "samples", samples::samples()?);
-    println!("{:<10} {:>7} cases, no difference", "lengths", samples::lengths()?);
+    println!("{:<14} {:>7} cases, no difference", "samples", samples::samples()?);
+    println!("{:<14} {:>7} cases, no difference", "lengths", samples::lengths()?);
     let mut total = 0;
     for (place, comparison) in COMPARISONS.iter().enumerate() {
         let tally = Tally::of(&COMPARISONS, place, 0..comparison.cases)?;
-        println!("{:<10} {:>7} cases, no difference ({})", comparison.name, tally.cases(), tally.words());
+        println!("{:<14} {:>7} cases, no difference ({})", comparison.name, tally.cases(), tally.words());
         total += tally.cases();
     }
-    println!("in all     {total:>7} cases, no difference, in {:.1} s", begun.elapsed().as_secs_f64());
+    println!("{:<14} {total:>7} cases, no difference, in {:.1} s", "in all", begun.elapsed().as_secs_f64());
     Ok(())
 }
 

@@ -1,4 +1,4 @@
-//! The soak: millions of random calls of all ten exported functions against the independent implementation. Every list that the proved library gets
+//! The soak: millions of random calls of all fourteen exported functions against the independent implementation. Every list that the proved library gets
 //! lies between two closed pages, so that a call that reads or writes beyond one is stopped, and named with its seed. `soak [FIRST]` begins with another
 //! seed than those of the comparison.
 
@@ -11,7 +11,7 @@ use std::process::ExitCode;
 use std::time::Instant;
 
 /// One comparison for each exported function; the check of a run list and the queries are four in one.
-const COMPARISONS: [Comparison; 8] = [
+const COMPARISONS: [Comparison; 13] = [
     Comparison { name: "read", cases: 400_000, one: cases::read },
     Comparison { name: "write", cases: 300_000, one: cases::write },
     Comparison { name: "shift", cases: 300_000, one: cases::shift },
@@ -20,6 +20,11 @@ const COMPARISONS: [Comparison; 8] = [
     Comparison { name: "judge-long", cases: 1_000, one: cases::judge_long },
     Comparison { name: "busy", cases: 200_000, one: cases::busy },
     Comparison { name: "queries", cases: 200_000, one: cases::queries },
+    Comparison { name: "weighted-read", cases: 200_000, one: cases::weighted::read },
+    Comparison { name: "weighted-write", cases: 200_000, one: cases::weighted::write },
+    Comparison { name: "weighted-plan", cases: 300_000, one: cases::weighted::plan },
+    Comparison { name: "weighted-judge", cases: 200_000, one: cases::weighted::judge },
+    Comparison { name: "weighted-long", cases: 1_000, one: cases::weighted::judge_long },
 ];
 
 /// The first seed where none is named: behind those of the comparison.
@@ -52,7 +57,7 @@ fn soak(first: u64) -> Result<(), String> {
     let mut numbers = BTreeSet::new();
     for (place, comparison) in COMPARISONS.iter().enumerate() {
         let tally = Tally::of(&COMPARISONS, place, first..first + comparison.cases)?;
-        println!("{:<10} {:>7} cases, no difference ({})", comparison.name, tally.cases(), tally.words());
+        println!("{:<14} {:>7} cases, no difference ({})", comparison.name, tally.cases(), tally.words());
         numbers.extend(tally.refusals());
         total += tally.cases();
     }
@@ -60,7 +65,7 @@ fn soak(first: u64) -> Result<(), String> {
         return Err(format!("no case came to refusal {number}"));
     }
     let seconds = begun.elapsed().as_secs_f64();
-    println!("in all     {total:>7} cases, no difference, refusals 1 to {} occurred, in {seconds:.1} s", inputs::LAST_REFUSAL);
+    println!("{:<14} {total:>7} cases, no difference, refusals 1 to {} occurred, in {seconds:.1} s", "in all", inputs::LAST_REFUSAL);
     Ok(())
 }
 

@@ -4,5 +4,6 @@ pub mod LowestLaws
 pub mod PlaceLaws
 pub mod ArrayFilling
 pub mod Storing
+pub mod RewriteLaws
 pub mod MemberLaws
 pub mod ListLaws

@@ -42,6 +42,10 @@ maxTicks = 16_383
 abbrev pub maxLaunch : ℕ
 maxLaunch = 86_399_999
 
+-- the greatest weight of an optional part in a weighted table
+abbrev pub maxWeight : ℕ
+maxWeight = 15
+
 -- the greatest tick that a frame can mean: the end of the last frame at the longest period, after the greatest launch tick
 abbrev pub lastTick : ℕ
 lastTick = (lastFrame + 1) * maxPeriod + maxLaunch

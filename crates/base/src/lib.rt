@@ -21,3 +21,6 @@ pub const MAX_TICKS: u32 = 16_383;
 
 // The greatest launch tick: the last tick of a day of 24 hours.
 pub const MAX_LAUNCH: u32 = 86_399_999;
+
+// The greatest weight of an optional part in a weighted table.
+pub const MAX_WEIGHT: u32 = 15;

@@ -29,6 +29,9 @@ pub struct Taken {
     pub next: Row,
 }
 
+// As many bits as eight bytes hold, whatever bit of the first they start at.
+const WITHIN_EIGHT: usize = 57;
+
 // A byte as a number of 64 bits.
 fn long(byte: u8) -> u64
     ensures { λ r. ⌜ r ≡ byte ⌝ }
@@ -186,6 +189,23 @@ impl Cursor {
         let bits = field_at(file, start, width);
         let row = Row { bits, left: width };
         let next = Cursor { at: start + width };
+        TakenRow { row, next }
+    }
+
+    // The row of `width` bits at the cursor, and the cursor behind it, where there may be fewer than eight bytes from the cursor's on: the row is taken out
+    // of eight bytes together with bits before it, which count as taken already.
+    pub fn take_near_end(self, file: &[u8], width: usize) -> TakenRow
+        requires { ⌜ (1 ≤ width) × (width ≤ 57) ⌝ }
+        requires { ⌜ 57 ≤ self .at + width ⌝ }
+        requires { ⌜ self .at + width ≤ 8 * length (now file) ⌝ }
+        requires { ⌜ self .at + width < 2 ^ 64 ⌝ }
+        ensures { λ r. ⌜ (r .row .bits ≡ field (now (file .entry)) (self .at + width - 57) 57) × (r .row .left ≡ width)
+            × (r .next .at ≡ self .at + width) ⌝ }
+    {
+        let end = self.at + width;
+        let bits = field_at(file, end - WITHIN_EIGHT, WITHIN_EIGHT);
+        let row = Row { bits, left: width };
+        let next = Cursor { at: end };
         TakenRow { row, next }
     }
 

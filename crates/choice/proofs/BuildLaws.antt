@@ -1,4 +1,4 @@
--- Laws of the rows that the code builds, from the innermost job outwards, and of the most parts that it finds.
+-- Laws of the rows that the code builds where each part counts 1, from the innermost job outwards, and of the most that it finds, over any worth.
 use Prim.Native.Nat.{ℕ, zero, suc, _+_, _*_, _-_, _≤_, _<_}
 use mathlib.Core.Path.{_≡_, sym, ap, _∙_}
 use mathlib.Core.List.{List, _∷_}
@@ -14,11 +14,11 @@ use Rattle.base.proofs.TestLaws.{pick-cases}
 use Rattle.schedule.specs.declared.Job.{Job}
 use Rattle.schedule.specs.Jobs.{counts, windowTicks}
 use Rattle.schedule.specs.JobArrays.{Bounded}
-use Rattle.choice.specs.Choice.{fits, keepNone, countOne, kept, discarded, chosen}
+use Rattle.choice.specs.Choice.{fits, keepNone, keptWorth, discardedWorth, chosenOver, countOne}
 use Rattle.choice.specs.Programme.{mandatorySum, outermostTicks, allWorth, row, greatest, bestWorth, byRows}
-use Rattle.choice.specs.Decisions.{rowPlaces, hugeTicks, rowOf, backOf, jobsFrom, Reaches, Convex, JobAdded, Decided}
+use Rattle.choice.specs.Decisions.{rowPlaces, hugeTicks, rowOver, rowOf, backOver, jobsFrom, Last, Reaches, Convex, JobAdded, Decided}
 use Rattle.choice.proofs.ProgrammeLaws.{greatest-only, greatest-same, row-below}
-use Rattle.choice.proofs.FitLaws.{fits-length, fits-tail, fits-room, ticks-outermost, worth-split}
+use Rattle.choice.proofs.FitLaws.{fits-length, fits-tail, fits-room, worth-split}
 use Rattle.choice.proofs.ChoiceLaws.{chosen-rows, chosen-keeps}
 use Rattle.choice.proofs.PartLaws.{Widened, widened, Cut, row-cut}
 
@@ -34,6 +34,13 @@ none-from at count none (suc i) l =
     let e : i + 1 ≡ suc i = omega arith in
     let h = rw (left-step at count i (omega arith)) at (none-from at count none i (omega arith)) in
     rw e at (fits-tail (at i) (jobsFrom at count (i + 1)) false (keepNone (jobsFrom at count (i + 1))) h)
+
+-- so the window of each job has room for the mandatory ticks of it and of those inside it
+pub room-from : (at : ℕ → Job) (count : ℕ) → fits (places at count) (keepNone (places at count)) ≡ true → (i : ℕ) → i < count
+    → mandatorySum (at i ∷ jobsFrom at count (i + 1)) ≤ windowTicks (at i)
+room-from at count none i l =
+    let h = rw (left-step at count i l) at (none-from at count none i (omega arith)) in
+    omega (arith, fits-room (at i) (jobsFrom at count (i + 1)) false (keepNone (jobsFrom at count (i + 1))) h)
 
 -- The rows are built down to place i: the row of the jobs from there on, up to the most parts that a list of them keeps, the rank of each, their
 -- mandatory ticks and the number of their optional parts above 0 ticks.
@@ -105,7 +112,7 @@ module _ (at : ℕ → Job) (count : ℕ) (small : count ≤ maxTasks) where
 
     -- so the window has room for the mandatory ticks
     pub mandatory-room : mandatory + at i .mandatory ≤ windowTicks (at i)
-    mandatory-room = omega (arith, mandatory-step, fits-room (at i) (jobsFrom at count (i + 1)) false (keepNone (jobsFrom at count (i + 1))) none-step)
+    mandatory-room = omega (arith, mandatory-step, room-from at count none i (omega (arith, b .within-is)))
 
     module _ (bounded : Bounded (at i)) (worth rank next room : ℕ) (row : List ℕ) (one : worth ≡ countOne (at i)) (added : JobAdded (at i) top rank ticks row)
         (room-is : room ≡ windowTicks (at i) - (mandatory + at i .mandatory))
@@ -165,31 +172,32 @@ unfolding places placesFrom
 outermost-small at zero h = omega arith
 outermost-small at (suc count) h = omega (arith, h 0 (omega arith) .deadline)
 
--- the most parts that the code finds are the best worth
-pub most-best : (jobs : List Job) (most : ℕ) → Reaches (rowOf jobs) most → most ≡ bestWorth countOne hugeTicks jobs
-most-best jobs most r =
-    let below = r .below most (omega arith) in
-    sym (greatest-only hugeTicks (rowOf jobs) (allWorth countOne jobs) most (row-below countOne hugeTicks jobs most below) below (λ v l m. omega (arith, r .beyond v l)))
+-- where a row goes up to `top` parts, it is below huge there last
+pub reaches-last : (numbers : ℕ → ℕ) (top : ℕ) → Reaches numbers top → Last numbers top
+reaches-last numbers top r = record { below = r .below top (omega arith); beyond = r .beyond }
 
--- what a number of parts gives that is the best worth: the row is below huge there, the marks read back are the chosen list, which keeps as many
--- parts and discards the others
-pub record Gives (jobs : List Job) (most : ℕ) : Type 0 where
-  pub below : rowOf jobs most < hugeTicks
-  pub marks : backOf jobs most ≡ chosen jobs
-  pub keeps : most ≡ kept jobs (chosen jobs)
-  pub others : discarded jobs (chosen jobs) + most ≡ allWorth countOne jobs
+module _ (worth : Job → ℕ) where
+  -- the worth at which a row is below huge last is the best
+  last-best : (jobs : List Job) (most : ℕ) → Last (rowOver worth jobs) most → most ≡ bestWorth worth hugeTicks jobs
+  last-best jobs most r =
+      sym (greatest-only hugeTicks (rowOver worth jobs) (allWorth worth jobs) most (row-below worth hugeTicks jobs most (r .below)) (r .below)
+      (λ v l m. omega (arith, r .beyond v l)))
 
-pub best-gives : (jobs : List Job) (most : ℕ) → outermostTicks jobs < hugeTicks → fits jobs (keepNone jobs) ≡ true → most ≡ bestWorth countOne hugeTicks jobs
-    → Gives jobs most
-unfolding byRows
-best-gives jobs most o none e =
-    let list = chosen-keeps countOne hugeTicks jobs o none in
-    let ticks = ticks-outermost jobs (chosen jobs) (list .fit) in
-    let split = worth-split countOne jobs (chosen jobs) (fits-length jobs _ (list .fit)) in
-    rw e
-    (record {
-      below = omega (arith, list .ticks);
-      marks = sym (chosen-rows countOne hugeTicks jobs o none);
-      keeps = sym (list .value);
-      others = omega (arith, list .value);
-    })
+  -- what it gives: the marks read back are the chosen list, which keeps that worth and discards what is left of all
+  pub record Gives (jobs : List Job) (most : ℕ) : Type 0 where
+    pub marks : backOver worth jobs most ≡ chosenOver worth jobs
+    pub keeps : most ≡ keptWorth worth jobs (chosenOver worth jobs)
+    pub others : discardedWorth worth jobs (chosenOver worth jobs) + most ≡ allWorth worth jobs
+
+  pub last-gives : (jobs : List Job) (most : ℕ) → outermostTicks jobs < hugeTicks → fits jobs (keepNone jobs) ≡ true → Last (rowOver worth jobs) most
+      → Gives jobs most
+  unfolding byRows
+  last-gives jobs most o none last =
+      let list = chosen-keeps worth hugeTicks jobs o none in
+      let split = worth-split worth jobs (chosenOver worth jobs) (fits-length jobs _ (list .fit)) in
+      rw (last-best jobs most last)
+      (record {
+        marks = sym (chosen-rows worth hugeTicks jobs o none);
+        keeps = sym (list .value);
+        others = omega (arith, list .value);
+      })

@@ -9,7 +9,7 @@ use borrow.Author.Tests.{ltb-true}
 use Rattle.base.proofs.TestLaws.{pick-cases}
 use Rattle.schedule.specs.declared.Job.{Job}
 use Rattle.schedule.specs.Jobs.{counts}
-use Rattle.choice.specs.Choice.{fits, keepNone, keptWorth, choiceKey, chosenOver, counted, chosen}
+use Rattle.choice.specs.Choice.{fits, keepNone, keptWorth, choiceKey, chosenOver, counted, weighed}
 use Rattle.choice.specs.KeepLists.{ZeroKept}
 use Rattle.choice.specs.Programme.{outermostTicks, allWorth, row, backtrack, bestWorth, byRows}
 use Rattle.choice.proofs.LexLaws.{LexAtMost}
@@ -94,5 +94,5 @@ counted-zero value job e =
     pick-cases (λ z. z ≡ 0) (counts job) (λ t. absurd (omega (arith, ltb-true))) (λ t. refl)
 
 -- The planner's list marks each optional part of 0 ticks as kept.
-pub chosen-zero-kept : (jobs : List Job) → fits jobs (keepNone jobs) ≡ true → ZeroKept jobs (chosen jobs)
-chosen-zero-kept jobs none = chosen-zero _ (counted-zero (λ job. 1)) jobs none
+pub chosen-zero-kept : (weight : ℕ → ℕ) (jobs : List Job) → fits jobs (keepNone jobs) ≡ true → ZeroKept jobs (chosenOver (weighed weight) jobs)
+chosen-zero-kept weight jobs none = chosen-zero _ (counted-zero (λ job. weight (job .position))) jobs none

@@ -5,12 +5,12 @@ use mathlib.Core.List.{List, [], _∷_}
 use mathlib.Core.Bool.{Bool, true, false, not}
 use native.Mathlib.Omega.{arith}
 use lib.ListN.{length}
-use Rattle.base.specs.Tests.{and}
+use Rattle.base.specs.Tests.{pick, and}
 use Rattle.base.proofs.TestLaws.{cases, both-absurd}
 use Rattle.schedule.specs.declared.Job.{Job}
 use Rattle.schedule.specs.Jobs.{workOf, counts, windowTicks, workWith}
 use Rattle.schedule.specs.Ticks.{oneIf}
-use Rattle.choice.specs.Choice.{worksFit, worksOf, fits, keepNone, keptTicks, discardedWorth, keptWorth, discarded}
+use Rattle.choice.specs.Choice.{worksFit, worksOf, fits, keepNone, keptTicks, discardedWorth, keptWorth, weighed}
 use Rattle.choice.specs.KeepLists.{totalWork}
 use Rattle.choice.specs.Programme.{mandatorySum, outermostTicks, allWorth}
 use Rattle.choice.proofs.WorkLaws.{NoMore, SameWindows, works-head, works-tail, works-cons, works-less, works-windows}
@@ -98,12 +98,13 @@ worth-split worth (job ∷ jobs) [] n = absurd (omega arith)
 worth-split worth (job ∷ jobs) (true ∷ keeps) n = omega (arith, worth-split worth jobs keeps (omega arith))
 worth-split worth (job ∷ jobs) (false ∷ keeps) n = omega (arith, worth-split worth jobs keeps (omega arith))
 
--- what the first job adds to the number discarded
-pub discarded-cons : (job : Job) (jobs : List Job) (keep : Bool) (keeps : List Bool)
-    → discarded (job ∷ jobs) (keep ∷ keeps) ≡ oneIf (and (counts job) (not keep)) + discarded jobs keeps
+-- what the first job adds to the weight discarded
+pub discarded-cons : (weight : ℕ → ℕ) (job : Job) (jobs : List Job) (keep : Bool) (keeps : List Bool)
+    → discardedWorth (weighed weight) (job ∷ jobs) (keep ∷ keeps)
+    ≡ pick (and (counts job) (not keep)) (weight (job .position)) 0 + discardedWorth (weighed weight) jobs keeps
 unfolding discardedWorth
-discarded-cons job jobs true keeps = cases (counts job) (λ e. rw e) (λ e. rw e)
-discarded-cons job jobs false keeps = cases (counts job) (λ e. rw e) (λ e. rw e)
+discarded-cons weight job jobs true keeps = cases (counts job) (λ e. rw e) (λ e. rw e)
+discarded-cons weight job jobs false keeps = cases (counts job) (λ e. rw e) (λ e. rw e)
 
 -- jobs with the same windows and lesser lengths, one by one
 abbrev pub Shorter : List Job → List Job → Type 0

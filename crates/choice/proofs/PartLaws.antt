@@ -16,8 +16,8 @@ use Rattle.schedule.specs.Jobs.{windowTicks}
 use Rattle.choice.specs.Choice.{fits, keepNone, countOne}
 use Rattle.choice.specs.Programme.{mandatorySum, greatest, keeping, row}
 use Rattle.choice.specs.Decisions.{hugeTicks, rowOf, keepsOver, keepsAbove, Reaches, Convex, PutAbove, PartAdded, JobAdded}
-use Rattle.choice.proofs.FitLaws.{fits-room, none-worth}
-use Rattle.choice.proofs.ProgrammeLaws.{ifRoom-fits, ifRoom-over, greatest-is, greatest-above, greatest-most, keeping-enough, keeping-short, row-is, row-least}
+use Rattle.choice.proofs.FitLaws.{fits-room}
+use Rattle.choice.proofs.ProgrammeLaws.{ifRoom-fits, ifRoom-over, greatest-is, greatest-above, greatest-most, keeping-enough, keeping-short, row-is, row-none}
 use Rattle.choice.proofs.ConvexLaws.{convex-rises, convex-less, convex-cut, convex-same, convex-put}
 
 -- The part is put in place by place, from the top downwards.
@@ -89,7 +89,7 @@ above-part job rank v l = rw (lt-ltb 0 (job .optional) l)
 pub record Widened (job : Job) (inner : ℕ → ℕ) (rank most : ℕ) (numbers : ℕ → ℕ) : Type 0 where
   pub made : (v : ℕ) → v ≤ most → min (keeping countOne hugeTicks job inner v) (inner v) ≡ numbers v
   pub beyond : (v : ℕ) → most < v → min (keeping countOne hugeTicks job inner v) (inner v) ≡ hugeTicks
-  pub keeps : (v : ℕ) → v ≤ most → keepsAbove job rank v ≡ keepsOver job inner v
+  pub keeps : (v : ℕ) → v ≤ most → keepsAbove job rank v ≡ keepsOver countOne job inner v
   pub convex : Convex numbers most
 
 module _ (job : Job) (inner : ℕ → ℕ) (top : ℕ) (reaches : Reaches inner top) (convex : Convex inner top) (before after : List ℕ)
@@ -197,7 +197,7 @@ pub record Cut (job : Job) (jobs : List Job) (rank most top : ℕ) (numbers : �
   pub reaches : Reaches (rowOf (job ∷ jobs)) top
   pub convex : Convex (rowOf (job ∷ jobs)) top
   pub small : rowOf (job ∷ jobs) top ≤ windowTicks job
-  pub keeps : (v : ℕ) → rowOf (job ∷ jobs) v < hugeTicks → keepsAbove job rank v ≡ keepsOver job (rowOf jobs) v
+  pub keeps : (v : ℕ) → rowOf (job ∷ jobs) v < hugeTicks → keepsAbove job rank v ≡ keepsOver countOne job (rowOf jobs) v
 
 -- It is cut at the greatest number of parts for which the window has room beside the mandatory ticks.
 module _ (job : Job) (jobs : List Job) (rank most room top : ℕ) (numbers : ℕ → ℕ) (w : Widened job (rowOf jobs) rank most numbers)
@@ -216,16 +216,14 @@ module _ (job : Job) (jobs : List Job) (rank most room top : ℕ) (numbers : ℕ
   unfolding row
   row-over v l m = rw (w .made v l) (ifRoom-over hugeTicks (mandatorySum (job ∷ jobs)) (windowTicks job) (numbers v) (omega (arith, mandatory-fits)))
 
-  row-none : (v : ℕ) → most < v → rowOf (job ∷ jobs) v ≡ hugeTicks
+  row-beyond : (v : ℕ) → most < v → rowOf (job ∷ jobs) v ≡ hugeTicks
   unfolding row
-  row-none v l = rw (w .beyond v l) (ifRoom-over hugeTicks (mandatorySum (job ∷ jobs)) (windowTicks job) hugeTicks (omega arith))
+  row-beyond v l = rw (w .beyond v l) (ifRoom-over hugeTicks (mandatorySum (job ∷ jobs)) (windowTicks job) hugeTicks (omega arith))
 
   -- no part takes no ticks
   first-zero : numbers 0 ≡ 0
   first-zero =
-      let least = rw (none-worth countOne (job ∷ jobs), none-worth (λ other. other .optional) (job ∷ jobs)) at (row-least countOne hugeTicks (job ∷ jobs) (keepNone (job ∷ jobs)) none) in
-      let zero-is : rowOf (job ∷ jobs) 0 ≡ 0 = omega arith in
-      let made = row-is countOne hugeTicks job jobs 0 0 zero-is (omega arith) in
+      let made = row-is countOne hugeTicks job jobs 0 0 (row-none countOne hugeTicks (job ∷ jobs) none) (omega arith) in
       sym (w .made 0 (omega arith)) ∙ made .1
 
   -- so the greatest has room, and no number of parts above it
@@ -248,7 +246,7 @@ module _ (job : Job) (jobs : List Job) (rank most room top : ℕ) (numbers : ℕ
           below = λ v l. omega (arith, cut-same v l, convex-rises numbers most (w .convex) v top l (top-room .1), top-room .0, room-is);
           beyond = λ v l.
               elim (decLt most v) [
-                | yes m ↦ row-none v m
+                | yes m ↦ row-beyond v m
                 | no m ↦ row-over v (omega arith) (omega (arith, greatest-above (room + 1) numbers most v (rw top-is at l) (omega arith)))
               ];
         };
@@ -256,7 +254,7 @@ module _ (job : Job) (jobs : List Job) (rank most room top : ℕ) (numbers : ℕ
         small = omega (arith, cut-same top (omega arith), top-room .0, room-is);
         keeps = λ v l.
             elim (decLt most v) [
-              | yes m ↦ absurd (omega (arith, row-none v m))
+              | yes m ↦ absurd (omega (arith, row-beyond v m))
               | no m ↦ w .keeps v (omega arith)
             ];
       }

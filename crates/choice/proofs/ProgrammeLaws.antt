@@ -11,12 +11,12 @@ use lib.Dec.{leb, ltb, eqb}
 use borrow.Author.Tests.{leb-true, leb-false, ltb-true, ltb-false, eqb-true, eqb-false, le-leb, lt-leb, lt-ltb, le-ltb}
 use Rattle.base.proofs.TestLaws.{pick-true, pick-false, both-absurd, pick-cases, picked}
 use Rattle.schedule.specs.declared.Job.{Job}
-use Rattle.choice.specs.Choice.{worksFit, worksOf, fits, keptTicks, discardMarks, keptWorth}
+use Rattle.choice.specs.Choice.{worksFit, worksOf, fits, keepNone, keptTicks, discardMarks, keptWorth}
 use Rattle.choice.specs.KeepLists.{ZeroKept}
 use Rattle.schedule.specs.Jobs.{windowTicks}
 use Rattle.choice.specs.Programme.{mandatorySum, allWorth, ifRoom, keeping, row, greatest, backtrack}
 use Rattle.choice.proofs.LexLaws.{LexAtMost}
-use Rattle.choice.proofs.FitLaws.{fits-tail, fits-room, room-fits}
+use Rattle.choice.proofs.FitLaws.{fits-tail, fits-room, room-fits, none-worth}
 
 -- a list that fits, keeps the worth v and keeps x ticks
 pub record Keeps (worth : Job → ℕ) (jobs : List Job) (v x : ℕ) (keeps : List Bool) : Type 0 where
@@ -46,6 +46,11 @@ module _ (huge : ℕ) where
   pub ifRoom-over : (mandatory window x : ℕ) → window < mandatory + x → ifRoom huge mandatory window x ≡ huge
   unfolding ifRoom
   ifRoom-over mandatory window x l = pick-false _ _ _ (lt-leb (mandatory + x) window l)
+
+  -- no number is above huge
+  ifRoom-most : (mandatory window x : ℕ) → window ≤ huge → ifRoom huge mandatory window x ≤ huge
+  unfolding ifRoom
+  ifRoom-most mandatory window x l = pick-cases (λ z. z ≤ huge) (leb (mandatory + x) window) (λ t. omega (arith, leb-true)) (λ t. omega arith)
 
   -- the greatest where a row is below huge there, where it is not, and where there is none
   pub greatest-found : (r : ℕ → ℕ) (n : ℕ) → 0 < n → r n < huge → greatest huge r n ≡ n
@@ -137,6 +142,13 @@ module _ (worth : Job → ℕ) (huge : ℕ) where
       pick-cases (λ z. z ≤ job .optional + x) (leb (worth job) (worth job + v))
       (λ t. rw add-sub-cancel-left (omega arith)) (λ t. absurd (omega (arith, leb-false)))
 
+  -- and no more than its own beyond huge
+  pub keeping-most : (job : Job) (inner : ℕ → ℕ) (v : ℕ) → ((u : ℕ) → inner u ≤ huge) → keeping worth huge job inner v ≤ job .optional + huge
+  unfolding keeping
+  keeping-most job inner v h =
+      let most = h (v - worth job) in
+      pick-cases (λ z. z ≤ job .optional + huge) (leb (worth job) v) (λ t. omega arith) (λ t. omega arith)
+
   -- a number below huge is the ticks of the job and those of the jobs inside it
   pub keeping-is : (job : Job) (inner : ℕ → ℕ) (v x : ℕ) → keeping worth huge job inner v ≡ x → x < huge
       → (worth job ≤ v) × (job .optional ≤ x) × (inner (v - worth job) ≡ x - job .optional)
@@ -165,6 +177,26 @@ module _ (worth : Job → ℕ) (huge : ℕ) where
   row-least (job ∷ jobs) (false ∷ keeps) e =
       let inner = row-least jobs keeps (fits-tail job jobs false keeps e) in
       ifRoom-least huge _ _ _ _ (simp zero-add (omega arith)) (fits-room job jobs false keeps e)
+
+  -- no worth takes no ticks, where the list that keeps nothing fits
+  pub row-none : (jobs : List Job) → fits jobs (keepNone jobs) ≡ true → row worth huge jobs 0 ≡ 0
+  row-none jobs none =
+      let least = rw (none-worth worth jobs, none-worth (λ other. other .optional) jobs) at (row-least jobs (keepNone jobs) none) in
+      omega arith
+
+  -- no number of a row is above huge
+  pub row-most : (job : Job) (jobs : List Job) (v : ℕ) → windowTicks job ≤ huge → row worth huge (job ∷ jobs) v ≤ huge
+  unfolding row
+  row-most job jobs v l = ifRoom-most huge (mandatorySum (job ∷ jobs)) (windowTicks job) (either job jobs v) l
+
+  -- beyond the greatest worth of a list of the jobs inside, and the job's own, a row is huge
+  pub row-past : (job : Job) (jobs : List Job) (top v : ℕ) → windowTicks job < huge → ((u : ℕ) → top < u → row worth huge jobs u ≡ huge) → top + worth job < v
+      → row worth huge (job ∷ jobs) v ≡ huge
+  unfolding row
+  row-past job jobs top v small beyond l =
+      let kept = keeping-enough job (row worth huge jobs) v (omega arith) in
+      ifRoom-over huge (mandatorySum (job ∷ jobs)) (windowTicks job) (either job jobs v)
+      (omega (arith, kept, beyond v (omega arith), beyond (v - worth job) (omega arith)))
 
   -- beyond the worth of all optional parts a row is huge
   pub row-beyond : (jobs : List Job) (v : ℕ) → allWorth worth jobs < v → row worth huge jobs v ≡ huge

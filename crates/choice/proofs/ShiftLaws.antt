@@ -7,7 +7,7 @@ use Rattle.schedule.specs.declared.Job.{Job}
 use Rattle.schedule.specs.LaterJobs.{laterJob, laterJobs}
 use Rattle.schedule.proofs.ShiftLaws.{window-shift}
 use Rattle.choice.specs.Choice.{worksFit, worksOf, fits, keepLists, keepNone, keptTicks, discardMarks, bestList, discardedWorth, keptWorth, choiceKey}
-use Rattle.choice.specs.Choice.{chosenOver, countOne, chosen}
+use Rattle.choice.specs.Choice.{chosenOver, weighed}
 
 module _ (c : ℕ) where
   -- The works are the same,
@@ -82,5 +82,5 @@ module _ (c : ℕ) where
         best-shift (fits jobs) (fits (laterJobs c jobs)) (choiceKey worth jobs) (choiceKey worth (laterJobs c jobs)) (fits-shift jobs) (key-shift jobs) jobs
 
   -- as the planner's is.
-  pub chosen-shift : (jobs : List Job) → chosen (laterJobs c jobs) ≡ chosen jobs
-  chosen-shift jobs = chosen-shift-by countOne (λ job. refl) jobs
+  pub chosen-shift : (weight : ℕ → ℕ) (jobs : List Job) → chosenOver (weighed weight) (laterJobs c jobs) ≡ chosenOver (weighed weight) jobs
+  chosen-shift weight jobs = chosen-shift-by (weighed weight) (λ job. refl) jobs

@@ -6,6 +6,7 @@ use mathlib.Core.Bool.{Bool, true, false, not}
 use lib.Dec.{leb, ltb, eqb}
 use Rattle.base.specs.Tests.{pick, and}
 use Rattle.base.specs.Sums.{total}
+use Rattle.table.specs.Reading.{oneEach}
 use Rattle.schedule.specs.declared.Job.{Job}
 use Rattle.schedule.specs.Jobs.{counts, windowTicks, workWith}
 use Rattle.schedule.specs.Ticks.{oneIf}
@@ -93,9 +94,13 @@ chosenOver worth jobs = bestList (fits jobs) (choiceKey worth jobs) jobs
 abbrev pub counted : (Job → ℕ) → Job → ℕ
 counted value job = pick (counts job) (value job) 0
 
--- any other is worth 1
+-- any other what the optional part of its position weighs,
+abbrev pub weighed : (ℕ → ℕ) → Job → ℕ
+weighed weight = counted (λ job. weight (job .position))
+
+-- which is 1 where parts are counted
 abbrev pub countOne : Job → ℕ
-countOne = counted (λ job. 1)
+countOne = weighed oneEach
 
 -- 'The planner's kept and discarded are the numbers of marks 1 and 0 in its keep list at optional parts above 0 ticks.' Here the kept,
 abbrev pub kept : List Job → List Bool → ℕ

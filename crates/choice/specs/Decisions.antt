@@ -1,5 +1,5 @@
--- For the proofs of choosing's and sequencing's code alone: what the code holds of the rows. The numbers of the outermost row so far, up to the most parts
--- that a list that fits keeps, and of each job its rank, which says where it is kept on the way back.
+-- For the proofs of choosing's, weighted_choosing's and sequencing's code alone: what the code holds of the rows. The numbers of the outermost row so far,
+-- up to the most that a list that fits keeps, and what says where each job is kept on the way back: where each part counts 1, its rank.
 use Prim.Native.Nat.{ℕ, _+_, _-_, _≤_, _<_}
 use mathlib.Core.Path.{_≡_}
 use mathlib.Core.List.{List}
@@ -23,23 +23,36 @@ rowPlaces = maxTasks + 1
 abbrev pub hugeTicks : ℕ
 hugeTicks = 1_073_741_824
 
--- the row of some jobs, where each part counts 1
-abbrev pub rowOf : List Job → ℕ → ℕ
-rowOf = row countOne hugeTicks
+-- the row of some jobs, over a worth of each optional part,
+abbrev pub rowOver : (Job → ℕ) → List Job → ℕ → ℕ
+rowOver worth = row worth hugeTicks
 
--- the marks read back from the row of some jobs, for the worth v
+-- and where each part counts 1
+abbrev pub rowOf : List Job → ℕ → ℕ
+rowOf = rowOver countOne
+
+-- the marks read back from the row of some jobs, for the worth v,
+abbrev pub backOver : (Job → ℕ) → List Job → ℕ → List Bool
+backOver worth jobs v = backtrack worth hugeTicks jobs v (rowOver worth jobs v)
+
+-- and where each part counts 1
 abbrev pub backOf : List Job → ℕ → List Bool
-backOf jobs v = backtrack countOne hugeTicks jobs v (rowOf jobs v)
+backOf = backOver countOne
 
 -- a job is kept on the way back, at the worth v, where that takes no more ticks than to discard it
-unfoldable pub keepsOver : Job → (ℕ → ℕ) → ℕ → Bool
-keepsOver job inner v = leb (keeping countOne hugeTicks job inner v) (inner v)
+unfoldable pub keepsOver : (Job → ℕ) → Job → (ℕ → ℕ) → ℕ → Bool
+keepsOver worth job inner v = leb (keeping worth hugeTicks job inner v) (inner v)
 
 -- the jobs from place i on, of `count` jobs
 abbrev pub jobsFrom : (ℕ → Job) → ℕ → ℕ → List Job
 jobsFrom at count i = placesFrom at i (count - i)
 
--- a row goes up to `top` parts: no list that fits keeps more
+-- a row is below huge at `top` last: no list that fits keeps more
+pub record Last (numbers : ℕ → ℕ) (top : ℕ) : Type 0 where
+  pub below : numbers top < hugeTicks
+  pub beyond : (v : ℕ) → top < v → numbers v ≡ hugeTicks
+
+-- a row goes up to `top` parts: no list that fits keeps more, and one keeps each number up to it
 pub record Reaches (numbers : ℕ → ℕ) (top : ℕ) : Type 0 where
   pub below : (v : ℕ) → v ≤ top → numbers v < hugeTicks
   pub beyond : (v : ℕ) → top < v → numbers v ≡ hugeTicks
@@ -74,10 +87,14 @@ JobAdded job top rank before after =
 unfoldable pub keepsAbove : Job → ℕ → ℕ → Bool
 keepsAbove job rank v = pick (counts job) (ltb rank v) true
 
--- from job i on, the rank of each job says where it is kept over the row of the jobs inside it, wherever a list of the job and those fits
-pub record Decided (at : ℕ → Job) (count i : ℕ) (ranks : List ℕ) : Type 0 where
-  pub decided : (k : ℕ) → i ≤ k → k < count → (v : ℕ) → rowOf (jobsFrom at count k) v < hugeTicks
-      → keepsAbove (at k) (getD ranks k 0) v ≡ keepsOver (at k) (rowOf (jobsFrom at count (k + 1))) v
+-- from job i on, a test of place and worth says where a job is kept over the row of the jobs inside it, wherever a list of the job and those fits
+pub record DecidedBy (worth : Job → ℕ) (at : ℕ → Job) (count i : ℕ) (test : ℕ → ℕ → Bool) : Type 0 where
+  pub decided : (k : ℕ) → i ≤ k → k < count → (v : ℕ) → rowOver worth (jobsFrom at count k) v < hugeTicks
+      → test k v ≡ keepsOver worth (at k) (rowOver worth (jobsFrom at count (k + 1))) v
+
+-- and where each part counts 1, the rank of each job says it
+abbrev pub Decided : (ℕ → Job) → ℕ → ℕ → List ℕ → Type 0
+Decided at count i ranks = DecidedBy countOne at count i (λ k v. keepsAbove (at k) (getD ranks k 0) v)
 
 -- the ranks of the first `count` of some jobs, the number of their optional parts above 0 ticks, and the most of them that a list that fits keeps
 abbrev pub RowsMade : List Job → ℕ → List ℕ → ℕ → ℕ → Type 0

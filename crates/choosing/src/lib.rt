@@ -46,7 +46,7 @@ pub fn worth(job: Job) -> usize
 }
 
 // The ticks of a job's window that are left beside mandatory ticks.
-fn room_beside(job: Job, mandatory: u32) -> u32
+pub fn room_beside(job: Job, mandatory: u32) -> u32
     requires { ⌜ mandatory ≤ windowTicks job ⌝ }
     ensures { λ r. ⌜ r ≡ windowTicks job - mandatory ⌝ }
 {

@@ -1,26 +1,31 @@
--- Laws of a table's lines: what is left of them at a place of the table.
-use Prim.Native.Nat.{ℕ, _+_, _-_, _≤_, _<_}
+-- Laws of a table's lines: what is left of them at a place of the table, and the numbers of a line.
+use Prim.Native.Nat.{ℕ, zero, suc, _+_, _-_, _≤_, _<_}
 use mathlib.Core.Path.{_≡_, sym, ap}
-use mathlib.Core.List.{List, [], _++_}
+use mathlib.Core.List.{List, [], _∷_, _++_}
+use native.Mathlib.Omega.{arith}
+use lib.ListN.{take}
 use Rattle.base.specs.Places.{placesFrom, places}
 use Rattle.base.proofs.PlaceLaws.{left-start, left-step, left-end}
-use Rattle.table.specs.declared.Table.{Table}
-use Rattle.table.specs.Tables.{taskAt}
-use Rattle.table_text.specs.TableText.{taskLine, taskLines}
+use Rattle.table_text.specs.TableText.{rowLine, rowLines}
 
-module _ (t : Table) where
+-- the first numbers of a row, and those behind the first of them
+pub take-behind : (width first : ℕ) (others : List ℕ) → 0 < width → take width (first ∷ others) ≡ first ∷ take (width - 1) others
+take-behind zero first others h = absurd (omega arith)
+take-behind (suc n) first others h = let e : suc n - 1 ≡ n = omega arith in rw e
+
+module _ (row : ℕ → List ℕ) (count : ℕ) where
   -- the lines of the tasks from position k on
   unfoldable pub tasksLeft : ℕ → List ℕ
-  tasksLeft k = taskLines (placesFrom (taskAt t) k (t .count - k))
+  tasksLeft k = rowLines (placesFrom row k (count - k))
 
-  pub tasks-start : taskLines (places (taskAt t) (t .count)) ≡ tasksLeft 0
+  pub tasks-start : rowLines (places row count) ≡ tasksLeft 0
   unfolding tasksLeft
-  tasks-start = ap taskLines (sym (left-start (taskAt t) (t .count)))
+  tasks-start = ap rowLines (sym (left-start row count))
 
-  pub tasks-step : (k : ℕ) → k < t .count → tasksLeft k ≡ taskLine (taskAt t k) ++ tasksLeft (k + 1)
-  unfolding tasksLeft taskLines
-  tasks-step k h = rw (left-step (taskAt t) (t .count) k h)
+  pub tasks-step : (k : ℕ) → k < count → tasksLeft k ≡ rowLine (row k) ++ tasksLeft (k + 1)
+  unfolding tasksLeft rowLines
+  tasks-step k h = rw (left-step row count k h)
 
-  pub tasks-end : (k : ℕ) → t .count ≤ k → tasksLeft k ≡ []
-  unfolding tasksLeft taskLines
-  tasks-end k h = rw (left-end (taskAt t) (t .count) k h)
+  pub tasks-end : (k : ℕ) → count ≤ k → tasksLeft k ≡ []
+  unfolding tasksLeft rowLines
+  tasks-end k h = rw (left-end row count k h)

@@ -2,7 +2,7 @@
 // length. include/planner.h declares them.
 ghost use mathlib.Core.Path.{_≡_};
 ghost use lib.ListN.{length};
-ghost use Rattle.table.specs.Reading.{tableIn};
+ghost use Rattle.table.specs.Reading.{plainRead};
 ghost use Rattle.table.specs.Writing.{writeReply, writtenOver};
 ghost use Rattle.table.specs.Moving.{moveReply, movedOver};
 ghost use Rattle.schedule.specs.Judging.{judgeReply};
@@ -10,8 +10,9 @@ ghost use Rattle.schedule.specs.BusyCount.{busyReply};
 ghost use Rattle.schedule.specs.RunCheck.{checkAnswer};
 ghost use Rattle.schedule.specs.Queries.{runAtTick, runFromTick, stretchOf};
 ghost use Rattle.records.specs.RecordColumns.{LegalColumns, copiedRuns};
-ghost use Rattle.plans.specs.Planning.{lentBefore, lentAfter, planReply, listsAfter};
-ghost use Rattle.exports.specs.FileRead.{readInC};
+ghost use Rattle.plans.specs.Planning.{lentBefore, lentAfter, planReply, listsLeft};
+ghost use Rattle.weighted_file.specs.Weights.{weightedRead, weightedWriteReply, weightedWrittenOver};
+ghost use Rattle.exports.specs.FileRead.{readInC, weightedReadInC};
 ghost use Rattle.exports.specs.QueryReplies.{checkedReply, foundReply};
 use plans::Planned;
 use records::RunColumns;
@@ -23,6 +24,7 @@ use schedule::Stretch;
 use table::Answer;
 use table::Table;
 use table::Written;
+use weighted_file::Weighted;
 
 // The reply of reading: the answer's number and place, and the table, which is 0 throughout on a refusal.
 #[repr(C)]
@@ -30,6 +32,14 @@ pub struct TableRead {
     pub number: u32,
     pub place: usize,
     pub table: Table,
+}
+
+// The reply of reading a weighted table: the same, with the weighted table.
+#[repr(C)]
+pub struct WeightedTableRead {
+    pub number: u32,
+    pub place: usize,
+    pub table: Weighted,
 }
 
 // The reply of the check of a run list: the answer's number and place.
@@ -101,9 +111,9 @@ pub extern "C" fn planner_plan(
     ends: &mut [u32],
     tasks: &mut [u32],
 ) -> Planned
-    ensures reply { λ r. ⌜ r ≡ planReply launch (now (file .entry)) (lentBefore marks starts ends tasks) ⌝ }
+    ensures reply { λ r. ⌜ r ≡ planReply launch (plainRead (now (file .entry))) (lentBefore marks starts ends tasks) ⌝ }
     ensures lists_after { λ r. ⌜ lentAfter marks starts ends tasks
-        ≡ listsAfter launch (tableIn (now (file .entry))) r (lentBefore marks starts ends tasks) ⌝ }
+        ≡ listsLeft launch (plainRead (now (file .entry))) r (lentBefore marks starts ends tasks) ⌝ }
 {
     planner::plan(file, launch, marks, starts, ends, tasks)
 }
@@ -111,9 +121,63 @@ pub extern "C" fn planner_plan(
 // Judging at a launch tick.
 #[no_mangle]
 pub extern "C" fn planner_judge(file: &[u8], launch: u32, marks: &[u8], runs: &[Run]) -> Judged
-    ensures { λ r. ⌜ r ≡ judgeReply launch (now (file .entry)) (now (marks .entry)) (now (runs .entry)) ⌝ }
+    ensures { λ r. ⌜ r ≡ judgeReply launch (plainRead (now (file .entry))) (now (marks .entry)) (now (runs .entry)) ⌝ }
 {
     judging::judge_copied(file, launch, marks, records::columns_of(runs))
+}
+
+// Reading a weighted table.
+#[no_mangle]
+pub extern "C" fn planner_weighted_read(file: &[u8]) -> WeightedTableRead
+    ensures { λ r. ⌜ r ≡ weightedReadInC (now (file .entry)) ⌝ }
+{
+    let read = weighted_reading::read(file);
+    let answer = read.answer;
+    let table = read.weighted;
+    WeightedTableRead {
+        number: answer.number(),
+        place: answer.place(),
+        table,
+    }
+}
+
+// Writing a weighted table.
+#[no_mangle]
+pub extern "C" fn planner_weighted_write(table: Weighted, out: &mut [u8]) -> Written
+    ensures reply { λ r. ⌜ r ≡ weightedWriteReply table (length (now (out .entry))) ⌝ }
+    ensures content { λ r. ⌜ now (out .exit) ≡ weightedWrittenOver table (now (out .entry)) ⌝ }
+{
+    weighted_writing::write(table, out)
+}
+
+// Planning a weighted table at a launch tick.
+#[no_mangle]
+pub extern "C" fn planner_weighted_plan(
+    file: &[u8],
+    launch: u32,
+    marks: &mut [u8],
+    starts: &mut [u32],
+    ends: &mut [u32],
+    tasks: &mut [u32],
+) -> Planned
+    ensures reply { λ r. ⌜ r ≡ planReply launch (weightedRead (now (file .entry))) (lentBefore marks starts ends tasks) ⌝ }
+    ensures lists_after { λ r. ⌜ lentAfter marks starts ends tasks
+        ≡ listsLeft launch (weightedRead (now (file .entry))) r (lentBefore marks starts ends tasks) ⌝ }
+{
+    weighted_planner::plan(file, launch, marks, starts, ends, tasks)
+}
+
+// Judging by a weighted table at a launch tick.
+#[no_mangle]
+pub extern "C" fn planner_weighted_judge(
+    file: &[u8],
+    launch: u32,
+    marks: &[u8],
+    runs: &[Run],
+) -> Judged
+    ensures { λ r. ⌜ r ≡ judgeReply launch (weightedRead (now (file .entry))) (now (marks .entry)) (now (runs .entry)) ⌝ }
+{
+    weighted_judging::judge_copied(file, launch, marks, records::columns_of(runs))
 }
 
 // The busy count of the interval from a to b.

@@ -3,17 +3,19 @@
 ghost use mathlib.Core.Path.{_≡_};
 ghost use Prim.Native.Nat.{_≤_};
 ghost use lib.Dec.{eqb};
-ghost use lib.ListN.{length, getD};
+ghost use lib.ListN.{length, getD, take};
 ghost use Rattle.base.specs.Limits.{maxTasks, maxRuns};
 ghost use Rattle.base.specs.Tests.{and};
 ghost use Rattle.base.specs.Lowest.{everyBelow};
+ghost use Rattle.table.specs.Reading.{plainRead};
 ghost use Rattle.table.specs.Writing.{Legal};
 ghost use Rattle.schedule.specs.Jobs.{workOf, counts};
 ghost use Rattle.schedule.specs.JobArrays.{noJob};
 ghost use Rattle.schedule.specs.Ticks.{countBelow};
+ghost use Rattle.schedule.specs.Runs.{runsOf};
 ghost use Rattle.schedule.specs.LentRuns.{OneLength, runsBefore};
 ghost use Rattle.schedule.specs.Judging.{firstBadMark, judgeDeclined, judgeTable, judgeReply, Sound};
-ghost use Rattle.records.specs.RecordColumns.{LegalColumns, copiedRuns};
+ghost use Rattle.records.specs.RecordColumns.{Lends, LegalColumns, copiedRuns};
 ghost use Rattle.schedule.specs.Passing.{runFits, Passed, verdictByPass};
 use base::MAX_TASKS;
 use records::RunColumns;
@@ -30,7 +32,7 @@ struct Pass {
 }
 
 // The reply of a refusal.
-fn declined(number: u32, place: usize) -> Judged
+pub fn declined(number: u32, place: usize) -> Judged
     ensures { λ r. ⌜ r ≡ judgeDeclined number place ⌝ }
 {
     Judged {
@@ -197,8 +199,8 @@ fn verdict_of(
     totals_exact(jobs, count, marks, totals)
 }
 
-// Judging on the table of an accepted file: 14, then 11, the length first, then 13, then the verdict.
-fn judge_table(
+// Judging on the table of an accepted file, of whatever form: 14, then 11, the length first, then 13, then the verdict.
+pub fn judge_table(
     table: Table,
     launch: u32,
     marks: &[u8],
@@ -243,7 +245,7 @@ pub fn judge_columns(
     tasks: &[u32],
 ) -> Judged
     requires { ⌜ OneLength starts ends tasks ⌝ }
-    ensures { λ r. ⌜ r ≡ judgeReply launch (now (file .entry)) (now (marks .entry)) (runsBefore starts ends tasks) ⌝ }
+    ensures { λ r. ⌜ r ≡ judgeReply launch (plainRead (now (file .entry))) (now (marks .entry)) (runsBefore starts ends tasks) ⌝ }
 {
     let read = reading::read(file);
     let answer = read.answer;
@@ -254,22 +256,46 @@ pub fn judge_columns(
     judge_table(table, launch, marks, starts, ends, tasks)
 }
 
+// Judging the first n runs of three columns. The columns are lent and not taken out of their struct, which would copy them.
+fn judge_first<'a>(
+    file: &[u8],
+    launch: u32,
+    marks: &[u8],
+    n: usize,
+    starts: &'a [u32],
+    ends: &'a [u32],
+    tasks: &'a [u32],
+) -> Judged
+    requires { ⌜ Lends n (now starts) ⌝ }
+    requires { ⌜ Lends n (now ends) ⌝ }
+    requires { ⌜ Lends n (now tasks) ⌝ }
+    ensures { λ r. ⌜ r ≡ judgeReply launch (plainRead (now (file .entry))) (now (marks .entry))
+        (runsOf (take n (now (starts .entry))) (take n (now (ends .entry))) (take n (now (tasks .entry)))) ⌝ }
+{
+    judge_columns(file, launch, marks, &starts[..n], &ends[..n], &tasks[..n])
+}
+
 // Judging runs that were copied into columns. It is public for the crate `exports` alone, which calls it as `judge` does.
 pub fn judge_copied(file: &[u8], launch: u32, marks: &[u8], columns: RunColumns) -> Judged
     requires { ⌜ LegalColumns columns ⌝ }
-    ensures { λ r. ⌜ r ≡ judgeReply launch (now (file .entry)) (now (marks .entry)) (copiedRuns columns) ⌝ }
+    ensures { λ r. ⌜ r ≡ judgeReply launch (plainRead (now (file .entry))) (now (marks .entry)) (copiedRuns columns) ⌝ }
 {
     let n = columns.count;
-    let starts = columns.starts;
-    let ends = columns.ends;
-    let tasks = columns.tasks;
-    judge_columns(file, launch, marks, &starts[..n], &ends[..n], &tasks[..n])
+    judge_first(
+        file,
+        launch,
+        marks,
+        n,
+        &columns.starts,
+        &columns.ends,
+        &columns.tasks,
+    )
 }
 
 // Judging: any bytes, launch tick, marks and run list get the reply of documents 01 and 02.
 pub fn judge(file: &[u8], launch: u32, marks: &[u8], runs: &[Run]) -> Judged
-    ensures reply { λ r. ⌜ r ≡ judgeReply launch (now (file .entry)) (now (marks .entry)) (now (runs .entry)) ⌝ }
-    ensures sound { λ r. ⌜ Sound launch (now (file .entry)) (now (marks .entry)) (now (runs .entry)) r ⌝ }
+    ensures reply { λ r. ⌜ r ≡ judgeReply launch (plainRead (now (file .entry))) (now (marks .entry)) (now (runs .entry)) ⌝ }
+    ensures sound { λ r. ⌜ Sound launch (plainRead (now (file .entry))) (now (marks .entry)) (now (runs .entry)) r ⌝ }
 {
     judge_copied(file, launch, marks, records::columns_of(runs))
 }

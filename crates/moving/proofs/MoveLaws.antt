@@ -1,6 +1,6 @@
 -- From the parts of moving to the whole.
 use Prim.Native.Nat.{ℕ, _≤_, _<_}
-use mathlib.Core.Path.{_≡_, ap, _∙_}
+use mathlib.Core.Path.{_≡_, refl, ap, _∙_}
 use mathlib.Core.Bool.{false}
 use mathlib.Core.List.{List}
 use native.Mathlib.Omega.{arith}
@@ -70,4 +70,4 @@ pub accepted-leaves : (s : List ℕ) (shift : ℤ) (out after : List ℕ) (u : T
     → u ≡ movedTable shift (tableIn s) → after ≡ writtenFront (fileOf u) out → after ≡ movedOver s shift out
 unfolding movedOver
 accepted-leaves s shift out after u e m a =
-    content.accepted-leaves _ (fileOf (movedTable shift (tableIn s))) _ out after e (a ∙ ap (λ (t : Table). writtenFront (fileOf t) out) m)
+    content.accepted-leaves _ (wrote (length s)) (fileOf (movedTable shift (tableIn s))) out after e refl (a ∙ ap (λ (t : Table). writtenFront (fileOf t) out) m)

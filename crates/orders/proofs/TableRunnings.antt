@@ -6,18 +6,18 @@ use mathlib.Core.List.{List, [], _∷_, map}
 use native.Mathlib.Omega.{arith}
 use lib.Dec.{eqb}
 use lib.ListN.{getD}
-use Rattle.base.specs.Tests.{and}
+use Rattle.base.specs.Tests.{pick, and}
 use Rattle.base.proofs.MemberLaws.{all-members, all-places, any-places}
 use Rattle.table.specs.declared.Table.{Table}
 use Rattle.schedule.specs.declared.Job.{Job}
 use Rattle.schedule.specs.declared.Run.{Run}
 use Rattle.schedule.specs.Jobs.{jobAt, jobsOf, counts}
-use Rattle.schedule.specs.Ticks.{Owner, oneIf}
-use Rattle.schedule.specs.Runnings.{WindowHolds, got, RunningOf, Whole, Running, discards, Fewest}
+use Rattle.schedule.specs.Ticks.{Owner}
+use Rattle.schedule.specs.Runnings.{WindowHolds, got, RunningOf, Whole, Running, discardedWeight, LeastWeight}
 use Rattle.schedule.specs.Runs.{ownerOf, TogetherOf}
 use Rattle.schedule.proofs.JudgeLaws.{discards-places}
 use Rattle.orders.specs.KindOrder.{kindBefore, orderLastFirst, jobsLastFirst}
-use Rattle.orders.proofs.SortLaws.{sumOver, count-order}
+use Rattle.orders.proofs.SortLaws.{sumOver, sum-order}
 use Rattle.orders.proofs.OrderLaws.{all-jobs, any-jobs}
 
 -- A running of a table's jobs in one order is one in the other, whatever each job may get.
@@ -55,35 +55,42 @@ together-of-order launch May workBy t numbers runs g =
           (λ k l. all-members Works (jobsLastFirst launch t) .0 (g .work) (jobAt launch t k) (any-jobs launch t (λ other. other ≡ jobAt launch t k) .1 (k, l, refl)));
     }
 
--- what is discarded, as a sum over positions
-discards-sum : (launch : ℕ) (t : Table) (owner : Owner) (js : List ℕ)
-    → discards (map (jobAt launch t) js) owner ≡ sumOver (λ k. oneIf (and (counts (jobAt launch t k)) (eqb (got owner (jobAt launch t k)) (jobAt launch t k .mandatory)))) js
-unfolding discards
-discards-sum launch t owner [] = refl
-discards-sum launch t owner (j ∷ js) =
-    ap (λ (x : ℕ). oneIf (and (counts (jobAt launch t j)) (eqb (got owner (jobAt launch t j)) (jobAt launch t j .mandatory))) + x) (discards-sum launch t owner js)
+-- what is discarded at a position, and in all as a sum over positions
+abbrev discardedAt : (ℕ → ℕ) → ℕ → Table → Owner → ℕ → ℕ
+discardedAt weight launch t owner k =
+    pick (and (counts (jobAt launch t k)) (eqb (got owner (jobAt launch t k)) (jobAt launch t k .mandatory))) (weight (jobAt launch t k .position)) 0
+
+discards-sum : (weight : ℕ → ℕ) (launch : ℕ) (t : Table) (owner : Owner) (js : List ℕ)
+    → discardedWeight weight (map (jobAt launch t) js) owner ≡ sumOver (discardedAt weight launch t owner) js
+unfolding discardedWeight
+discards-sum weight launch t owner [] = refl
+discards-sum weight launch t owner (j ∷ js) =
+    ap (λ (x : ℕ). discardedAt weight launch t owner j + x) (discards-sum weight launch t owner js)
 
 -- Both orders discard as much.
-pub discards-order : (launch : ℕ) (t : Table) (owner : Owner) → discards (jobsOf launch t) owner ≡ discards (jobsLastFirst launch t) owner
+pub discards-order : (weight : ℕ → ℕ) (launch : ℕ) (t : Table) (owner : Owner)
+    → discardedWeight weight (jobsOf launch t) owner ≡ discardedWeight weight (jobsLastFirst launch t) owner
 unfolding jobsOf jobsLastFirst orderLastFirst
-discards-order launch t owner =
-    discards-places (jobAt launch t) owner (λ k. and (counts (jobAt launch t k)) (eqb (got owner (jobAt launch t k)) (jobAt launch t k .mandatory))) (t .count) (λ k l. refl)
-    ∙ sym (discards-sum launch t owner (orderLastFirst t) ∙ count-order (kindBefore t) (λ k. and (counts (jobAt launch t k)) (eqb (got owner (jobAt launch t k)) (jobAt launch t k .mandatory))) (t .count))
+discards-order weight launch t owner =
+    discards-places weight (jobAt launch t) owner (λ k. and (counts (jobAt launch t k)) (eqb (got owner (jobAt launch t k)) (jobAt launch t k .mandatory))) (t .count) (λ k l. refl)
+    ∙ sym (discards-sum weight launch t owner (orderLastFirst t) ∙ sum-order (kindBefore t) (discardedAt weight launch t owner) (t .count))
 
 -- A running exists of the one exactly where one exists of the other.
 pub exists-order : (launch : ℕ) (t : Table) → ((owner : Owner) × Running (jobsOf launch t) owner) ↔ ((owner : Owner) × Running (jobsLastFirst launch t) owner)
 exists-order launch t = (λ r. (r .0, running-order launch t (r .0) .0 (r .1)), λ r. (r .0, running-order launch t (r .0) .1 (r .1)))
 
 -- What every running of the jobs last first discards at least, every running of the table does.
-pub least-order : (launch : ℕ) (t : Table) (d : ℕ) → ((owner : Owner) → Running (jobsLastFirst launch t) owner → d ≤ discards (jobsLastFirst launch t) owner)
-    → (owner : Owner) → Running (jobsOf launch t) owner → d ≤ discards (jobsOf launch t) owner
-least-order launch t d least owner r = omega (arith, discards-order launch t owner, least owner (running-order launch t owner .0 r))
+pub least-order : (weight : ℕ → ℕ) (launch : ℕ) (t : Table) (d : ℕ)
+    → ((owner : Owner) → Running (jobsLastFirst launch t) owner → d ≤ discardedWeight weight (jobsLastFirst launch t) owner)
+    → (owner : Owner) → Running (jobsOf launch t) owner → d ≤ discardedWeight weight (jobsOf launch t) owner
+least-order weight launch t d least owner r = omega (arith, discards-order weight launch t owner, least owner (running-order launch t owner .0 r))
 
--- Where some running of the jobs last first discards just that many, a running of the table does exactly where none discards fewer than it.
-pub fewest-order : (launch : ℕ) (t : Table) (d : ℕ) (best : Owner) → Running (jobsLastFirst launch t) best → discards (jobsLastFirst launch t) best ≡ d
-    → ((owner : Owner) → Running (jobsLastFirst launch t) owner → d ≤ discards (jobsLastFirst launch t) owner)
-    → (owner : Owner) → Running (jobsOf launch t) owner → (discards (jobsOf launch t) owner ≡ d) ↔ Fewest (jobsOf launch t) owner
-fewest-order launch t d best b e least owner r = (
-  λ q other s. omega (arith, least-order launch t d least other s),
-  λ f. omega (arith, least-order launch t d least owner r, f best (running-order launch t best .1 b), discards-order launch t best),
+-- Where some running of the jobs last first discards just as much, a running of the table does exactly where none discards less than it.
+pub fewest-order : (weight : ℕ → ℕ) (launch : ℕ) (t : Table) (d : ℕ) (best : Owner) → Running (jobsLastFirst launch t) best
+    → discardedWeight weight (jobsLastFirst launch t) best ≡ d
+    → ((owner : Owner) → Running (jobsLastFirst launch t) owner → d ≤ discardedWeight weight (jobsLastFirst launch t) owner)
+    → (owner : Owner) → Running (jobsOf launch t) owner → (discardedWeight weight (jobsOf launch t) owner ≡ d) ↔ LeastWeight weight (jobsOf launch t) owner
+fewest-order weight launch t d best b e least owner r = (
+  λ q other s. omega (arith, least-order weight launch t d least other s),
+  λ f. omega (arith, least-order weight launch t d least owner r, f best (running-order launch t best .1 b), discards-order weight launch t best),
 )

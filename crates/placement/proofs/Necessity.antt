@@ -11,12 +11,12 @@ use Rattle.base.specs.Tests.{and}
 use Rattle.base.proofs.TestLaws.{cases}
 use Rattle.schedule.specs.declared.Job.{Job}
 use Rattle.schedule.specs.Ticks.{Owner, isTask, ticksOf}
-use Rattle.schedule.specs.Runnings.{got, Gets, Running, discards, Whole}
+use Rattle.schedule.specs.Runnings.{got, Gets, Running, discardedWeight, Whole}
 use Rattle.base.specs.Members.{All}
 use Rattle.base.specs.Arrays.{Distinct}
 use Rattle.base.specs.Sums.{total}
 use Rattle.schedule.proofs.TickLaws.{shares, count-grows, shares-fit}
-use Rattle.choice.specs.Choice.{worksFit, worksOf, fits, discardedWorth, discarded}
+use Rattle.choice.specs.Choice.{worksFit, worksOf, fits, discardedWorth, weighed}
 use Rattle.choice.specs.KeepLists.{totalWork}
 use Rattle.schedule.specs.Jobs.{workWith}
 use Rattle.choice.proofs.WorkLaws.{works-cons}
@@ -92,17 +92,19 @@ mark-discards g m o (inr e) =
     (λ q. rw q)
 
 -- the marks read off discard what the running discards
-marks-discard : (owner : Owner) (jobs : List Job) → All (Gets Whole owner) jobs → discarded jobs (marksOf jobs owner) ≡ discards jobs owner
-unfolding discardedWorth discards
-marks-discard owner [] g = refl
-marks-discard owner (job ∷ jobs) g =
-    rw (discarded-cons job jobs (isKept owner job) (marksOf jobs owner), mark-discards (got owner job) (job .mandatory) (job .optional) (g .0))
-    (omega (arith, marks-discard owner jobs (g .1)))
+marks-discard : (weight : ℕ → ℕ) (owner : Owner) (jobs : List Job) → All (Gets Whole owner) jobs
+    → discardedWorth (weighed weight) jobs (marksOf jobs owner) ≡ discardedWeight weight jobs owner
+unfolding discardedWorth discardedWeight
+marks-discard weight owner [] g = refl
+marks-discard weight owner (job ∷ jobs) g =
+    rw (discarded-cons weight job jobs (isKept owner job) (marksOf jobs owner), mark-discards (got owner job) (job .mandatory) (job .optional) (g .0))
+    (omega (arith, marks-discard weight owner jobs (g .1)))
 
 -- The marks read off a running of a chain fit.
 pub running-fits : (jobs : List Job) (owner : Owner) → Chain jobs → Running jobs owner → fits jobs (marksOf jobs owner) ≡ true
 running-fits jobs owner c r = rw (marks-works owner jobs (r .gets)) (got-fit jobs owner c)
 
 -- They discard what it discards; for this the jobs need not be a chain.
-pub running-discards : (jobs : List Job) (owner : Owner) → Running jobs owner → discarded jobs (marksOf jobs owner) ≡ discards jobs owner
-running-discards jobs owner r = marks-discard owner jobs (r .gets)
+pub running-discards : (weight : ℕ → ℕ) (jobs : List Job) (owner : Owner) → Running jobs owner
+    → discardedWorth (weighed weight) jobs (marksOf jobs owner) ≡ discardedWeight weight jobs owner
+running-discards weight jobs owner r = marks-discard weight owner jobs (r .gets)

@@ -13,9 +13,9 @@ use Rattle.base.proofs.TestLaws.{cases}
 use Rattle.schedule.specs.declared.Job.{Job}
 use Rattle.schedule.specs.Jobs.{counts, workWith}
 use Rattle.schedule.specs.Ticks.{Owner}
-use Rattle.schedule.specs.Runnings.{got, RunningOf, Whole, Running, discards}
+use Rattle.schedule.specs.Runnings.{got, RunningOf, Whole, Running, discardedWeight}
 use Rattle.base.specs.Members.{All}
-use Rattle.choice.specs.Choice.{worksFit, worksOf, fits, discardedWorth, discarded}
+use Rattle.choice.specs.Choice.{worksFit, worksOf, fits, discardedWorth, weighed}
 use Rattle.choice.proofs.FitLaws.{fits-length, discarded-cons}
 use Rattle.placement.specs.Chains.{Chain}
 use Rattle.placement.specs.Placing.{worksPlaced, placed}
@@ -56,12 +56,14 @@ work-discards g job true e =
 work-discards g job false e = rw (eq-eqb g (job .mandatory) (omega arith))
 
 -- jobs that get the work of a list discard what the list discards
-pub list-discards : (owner : Owner) (jobs : List Job) (keeps : List Bool) → GetsWork jobs keeps owner → discards jobs owner ≡ discarded jobs keeps
-unfolding worksOf discards discardedWorth
-list-discards owner [] keeps g = refl
-list-discards owner (job ∷ jobs) [] g = absurd g
-list-discards owner (job ∷ jobs) (keep ∷ keeps) g =
-    rw (discarded-cons job jobs keep keeps, work-discards (got owner job) job keep (g .0)) (omega (arith, list-discards owner jobs keeps (g .1)))
+pub list-discards : (weight : ℕ → ℕ) (owner : Owner) (jobs : List Job) (keeps : List Bool) → GetsWork jobs keeps owner
+    → discardedWeight weight jobs owner ≡ discardedWorth (weighed weight) jobs keeps
+unfolding worksOf discardedWeight discardedWorth
+list-discards weight owner [] keeps g = refl
+list-discards weight owner (job ∷ jobs) [] g = absurd g
+list-discards weight owner (job ∷ jobs) (keep ∷ keeps) g =
+    rw (discarded-cons weight job jobs keep keeps, work-discards (got owner job) job keep (g .0))
+    (omega (arith, list-discards weight owner jobs keeps (g .1)))
 
 -- A list that fits, placed, is a running.
 pub placed-running : (jobs : List Job) (keeps : List Bool) → Chain jobs → fits jobs keeps ≡ true → Running jobs (placed jobs keeps)
@@ -72,6 +74,6 @@ pub placed-work : (jobs : List Job) (keeps : List Bool) → Chain jobs → fits 
 placed-work jobs keeps c e = fits-placed jobs keeps c e .work
 
 -- It discards what the list discards.
-pub placed-discards : (jobs : List Job) (keeps : List Bool) → Chain jobs → fits jobs keeps ≡ true
-    → discards jobs (placed jobs keeps) ≡ discarded jobs keeps
-placed-discards jobs keeps c e = list-discards (placed jobs keeps) jobs keeps (placed-work jobs keeps c e)
+pub placed-discards : (weight : ℕ → ℕ) (jobs : List Job) (keeps : List Bool) → Chain jobs → fits jobs keeps ≡ true
+    → discardedWeight weight jobs (placed jobs keeps) ≡ discardedWorth (weighed weight) jobs keeps
+placed-discards weight jobs keeps c e = list-discards weight (placed jobs keeps) jobs keeps (placed-work jobs keeps c e)

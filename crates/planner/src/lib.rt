@@ -10,7 +10,7 @@ ghost use Rattle.base.specs.Places.{places};
 ghost use Rattle.base.specs.Lent.{writtenFront};
 ghost use Rattle.table.specs.Answers.{numberOf, placeOf};
 ghost use Rattle.table.specs.Kinds.{isNested};
-ghost use Rattle.table.specs.Reading.{tableIn, readReply};
+ghost use Rattle.table.specs.Reading.{oneEach, plainRead, readReply};
 ghost use Rattle.table.specs.Writing.{Legal};
 ghost use Rattle.schedule.specs.JobArrays.{noJob, jobsIn, AllBounded};
 ghost use Rattle.base.specs.Members.{Any};
@@ -20,9 +20,9 @@ ghost use Rattle.placement.specs.HeldRuns.{RunsRoom, RunsPut};
 ghost use Rattle.choice.specs.KeepLists.{ChosenFor, keepsIn};
 ghost use Rattle.choice.specs.Choice.{keepNone};
 ghost use Rattle.orders.specs.Keys.{KeysHeld};
-ghost use Rattle.plans.specs.Planning.{exceedingAfter, unmetBy, chosenBy, runsBy, tooShort, markAt, planDeclined, planMade, madeBy, replyBy, writtenBy, afterBy};
-ghost use Rattle.plans.specs.PlanParts.{fitsBy};
-ghost use Rattle.plans.specs.Planning.{lent, lentBefore, lentAfter, shortLists, planTable, planReply, listsAfter};
+ghost use Rattle.plans.specs.Planning.{exceedingAfter, unmetBy, chosenBy, runsBy, tooShort, markAt, planDeclined, planMade, replyBy, afterBy};
+ghost use Rattle.plans.specs.PlanParts.{fitsBy, writtenWith, refusedBy};
+ghost use Rattle.plans.specs.Planning.{lent, lentBefore, lentAfter, shortLists, planTable, planReply, listsAfter, listsLeft};
 ghost use Rattle.plans.specs.Launch.{EarlierAtZero, LaterByLaunch};
 ghost use Rattle.plans.specs.KindJobs.{HeldJobs};
 ghost use Rattle.plans.specs.Demands.{EightExactly, JudgeAccepts, PlannedOptimal};
@@ -35,7 +35,7 @@ use table::Answer;
 use table::Table;
 
 // The reply of a refusal.
-fn declined(number: u32, place: usize) -> Planned
+pub fn declined(number: u32, place: usize) -> Planned
     ensures { λ r. ⌜ r ≡ planDeclined number place ⌝ }
 {
     Planned {
@@ -133,7 +133,7 @@ fn first_unmet(jobs: [Job; MAX_TASKS], count: usize, nested: bool) -> usize
 fn choose(jobs: [Job; MAX_TASKS], count: usize, nested: bool) -> Choice
     requires { ⌜ HeldJobs nested jobs count ⌝ }
     requires { ⌜ fitsBy nested (jobsIn jobs count) (keepNone (jobsIn jobs count)) ≡ true ⌝ }
-    ensures { λ r. ⌜ ChosenFor (chosenBy nested) (jobsIn jobs count) (keepsIn (r .keeps) count) (r .kept) (r .discarded) ⌝ }
+    ensures { λ r. ⌜ ChosenFor (chosenBy nested oneEach) (jobsIn jobs count) (keepsIn (r .keeps) count) (r .kept) (r .discarded) ⌝ }
 {
     if nested {
         return choosing::choose(jobs, count);
@@ -164,23 +164,48 @@ fn place(
     sequencing::place(jobs, count, keeps, starts, ends, tasks)
 }
 
-// The plan of jobs whose mandatory parts fit, into lists that are long enough.
-fn put_plan(
+// What is refused of jobs before they are planned, for lent lists of these lengths: 8, then 9; a reply of 0 throughout where neither is due.
+pub fn refused_jobs(
     jobs: [Job; MAX_TASKS],
     count: usize,
     nested: bool,
+    marks: usize,
+    starts: usize,
+    ends: usize,
+    tasks: usize,
+) -> Planned
+    requires { ⌜ HeldJobs nested jobs count ⌝ }
+    ensures { λ r. ⌜ r ≡ refusedBy nested count (jobsIn jobs count) marks starts ends tasks ⌝ }
+{
+    let unmet = first_unmet(jobs, count, nested);
+    if unmet < count {
+        return declined(8, unmet);
+    }
+    if too_short(count, marks, starts, ends, tasks) {
+        return declined(9, 0);
+    }
+    declined(0, 0)
+}
+
+// The marks and the runs of jobs under a choice that fits, put into lists that are long enough, and the reply with its counts.
+pub fn put_choice(
+    jobs: [Job; MAX_TASKS],
+    count: usize,
+    nested: bool,
+    choice: Choice,
     marks: &mut [u8],
     starts: &mut [u32],
     ends: &mut [u32],
     tasks: &mut [u32],
 ) -> Planned
     requires { ⌜ HeldJobs nested jobs count ⌝ }
-    requires { ⌜ fitsBy nested (jobsIn jobs count) (keepNone (jobsIn jobs count)) ≡ true ⌝ }
+    requires { ⌜ fitsBy nested (jobsIn jobs count) (keepsIn (choice .keeps) count) ≡ true ⌝ }
     requires { ⌜ shortLists count (lent (now marks) (now starts) (now ends) (now tasks)) ≡ false ⌝ }
-    ensures { λ r. ⌜ r ≡ madeBy nested (jobsIn jobs count) ⌝ }
-    ensures { λ _. ⌜ lentAfter marks starts ends tasks ≡ writtenBy nested count (jobsIn jobs count) (lentBefore marks starts ends tasks) ⌝ }
+    ensures { λ r. ⌜ r
+        ≡ planMade (choice .kept) (choice .discarded) (length (runsBy nested (jobsIn jobs count) (keepsIn (choice .keeps) count))) ⌝ }
+    ensures { λ _. ⌜ lentAfter marks starts ends tasks
+        ≡ writtenWith nested count (jobsIn jobs count) (keepsIn (choice .keeps) count) (lentBefore marks starts ends tasks) ⌝ }
 {
-    let choice = choose(jobs, count, nested);
     let keeps = choice.keeps;
     put_marks(jobs, keeps, count, marks);
     let runs = place(jobs, count, nested, keeps, starts, ends, tasks);
@@ -198,17 +223,24 @@ fn plan_jobs(
     tasks: &mut [u32],
 ) -> Planned
     requires { ⌜ HeldJobs nested jobs count ⌝ }
-    ensures { λ r. ⌜ r ≡ replyBy nested count (jobsIn jobs count) (lentBefore marks starts ends tasks) ⌝ }
-    ensures { λ r. ⌜ lentAfter marks starts ends tasks ≡ afterBy nested count (jobsIn jobs count) r (lentBefore marks starts ends tasks) ⌝ }
+    ensures { λ r. ⌜ r ≡ replyBy nested oneEach count (jobsIn jobs count) (lentBefore marks starts ends tasks) ⌝ }
+    ensures { λ r. ⌜ lentAfter marks starts ends tasks
+        ≡ afterBy nested oneEach count (jobsIn jobs count) r (lentBefore marks starts ends tasks) ⌝ }
 {
-    let unmet = first_unmet(jobs, count, nested);
-    if unmet < count {
-        return declined(8, unmet);
+    let refusal = refused_jobs(
+        jobs,
+        count,
+        nested,
+        marks.len(),
+        starts.len(),
+        ends.len(),
+        tasks.len(),
+    );
+    if refusal.number != 0 {
+        return refusal;
     }
-    if too_short(count, marks.len(), starts.len(), ends.len(), tasks.len()) {
-        return declined(9, 0);
-    }
-    put_plan(jobs, count, nested, marks, starts, ends, tasks)
+    let choice = choose(jobs, count, nested);
+    put_choice(jobs, count, nested, choice, marks, starts, ends, tasks)
 }
 
 // Planning the table of an accepted file at a launch tick, by its kind and the keys of its order: 14 first.
@@ -225,9 +257,9 @@ fn plan_table(
     requires { ⌜ Legal table ⌝ }
     requires { ⌜ nested ≡ isNested table ⌝ }
     requires { ⌜ KeysHeld (isNested table) table (table .count) keys ⌝ }
-    ensures { λ r. ⌜ r ≡ planTable launch table (lentBefore marks starts ends tasks) ⌝ }
+    ensures { λ r. ⌜ r ≡ planTable launch oneEach table (lentBefore marks starts ends tasks) ⌝ }
     ensures { λ r. ⌜ lentAfter marks starts ends tasks
-        ≡ listsAfter launch table r (lentBefore marks starts ends tasks) ⌝ }
+        ≡ listsAfter launch oneEach table r (lentBefore marks starts ends tasks) ⌝ }
 {
     if clock::bad_launch(launch) {
         return declined(14, 0);
@@ -264,9 +296,9 @@ pub fn plan_counted(
 ) -> Counted
     ensures { λ r. ⌜ r .count ≡ readReply (now (file .entry)) .table .count ⌝ }
     ensures { λ r. ⌜ r .reply
-        ≡ planReply launch (now (file .entry)) (lentBefore marks starts ends tasks) ⌝ }
+        ≡ planReply launch (plainRead (now (file .entry))) (lentBefore marks starts ends tasks) ⌝ }
     ensures { λ r. ⌜ lentAfter marks starts ends tasks
-        ≡ listsAfter launch (tableIn (now (file .entry))) (r .reply) (lentBefore marks starts ends tasks) ⌝ }
+        ≡ listsLeft launch (plainRead (now (file .entry))) (r .reply) (lentBefore marks starts ends tasks) ⌝ }
 {
     let read = reading::read_any_kind(file);
     let table = read.table;
@@ -296,21 +328,21 @@ pub fn plan(
     ends: &mut [u32],
     tasks: &mut [u32],
 ) -> Planned
-    ensures reply { λ r. ⌜ r ≡ planReply launch (now (file .entry)) (lentBefore marks starts ends tasks) ⌝ }
+    ensures reply { λ r. ⌜ r ≡ planReply launch (plainRead (now (file .entry))) (lentBefore marks starts ends tasks) ⌝ }
     ensures lists_after { λ r. ⌜ lentAfter marks starts ends tasks
-        ≡ listsAfter launch (tableIn (now (file .entry))) r (lentBefore marks starts ends tasks) ⌝ }
-    ensures demand_2_refusal { λ r. ⌜ EightExactly launch (now (file .entry)) r ⌝ }
-    ensures demand_2_judge { λ r. ⌜ JudgeAccepts launch (now (file .entry)) r
+        ≡ listsLeft launch (plainRead (now (file .entry))) r (lentBefore marks starts ends tasks) ⌝ }
+    ensures demand_2_refusal { λ r. ⌜ EightExactly launch (plainRead (now (file .entry))) r ⌝ }
+    ensures demand_2_judge { λ r. ⌜ JudgeAccepts launch (plainRead (now (file .entry))) r
         (lentAfter marks starts ends tasks) ⌝ }
     ensures demand_3 { λ r. ⌜ PlannedOptimal launch (now (file .entry)) r
         (lentAfter marks starts ends tasks) ⌝ }
-    ensures by_rules { λ r. ⌜ PlannedByRules launch (now (file .entry)) r
+    ensures by_rules { λ r. ⌜ PlannedByRules launch (plainRead (now (file .entry))) r
         (lentAfter marks starts ends tasks) ⌝ }
-    ensures eight_first { λ r. ⌜ EightFirst launch (now (file .entry)) r ⌝ }
-    ensures earlier_at_0 { λ r. ⌜ EarlierAtZero launch (now (file .entry)) r
+    ensures eight_first { λ r. ⌜ EightFirst launch (plainRead (now (file .entry))) r ⌝ }
+    ensures earlier_at_0 { λ r. ⌜ EarlierAtZero launch (plainRead (now (file .entry))) r
         (lentBefore marks starts ends tasks)
         (lentAfter marks starts ends tasks) ⌝ }
-    ensures later_by_launch { λ r. ⌜ LaterByLaunch launch (now (file .entry)) r
+    ensures later_by_launch { λ r. ⌜ LaterByLaunch launch (plainRead (now (file .entry))) r
         (lentBefore marks starts ends tasks)
         (lentAfter marks starts ends tasks) ⌝ }
 {

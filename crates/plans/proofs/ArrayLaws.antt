@@ -1,16 +1,14 @@
 -- What the code holds of jobs in arrays, and what it means: the jobs of a table in the order of its kind, last first, and their keep list.
 use Prim.Native.Nat.{ℕ, _-_, _*_, _≤_, _<_}
-use mathlib.Core.Path.{_≡_, refl, sym, ap, _∙_}
+use mathlib.Core.Path.{_≡_, sym, ap, _∙_}
 use mathlib.Core.Bool.{Bool, true, false}
-use mathlib.Core.List.{List, map}
-use lib.Dec.{ltb}
+use mathlib.Core.List.{List}
+use lib.Dec.{ltb, eqb}
 use lib.ListN.{length, getD}
 use borrow.Author.Tests.{le-ltb, ltb-false, not-false}
 use Rattle.base.specs.Limits.{maxLaunch}
 use Rattle.base.specs.Tests.{or}
-use Rattle.base.specs.Places.{places}
 use Rattle.base.specs.Arrays.{firstPlaces, Distinct}
-use Rattle.base.specs.Lent.{writtenFront}
 use Rattle.base.specs.Members.{All}
 use Rattle.base.proofs.TestLaws.{or-left, or-right}
 use Rattle.base.proofs.MemberLaws.{all-places}
@@ -19,19 +17,21 @@ use Rattle.table.specs.Kinds.{isNested}
 use Rattle.table.specs.Writing.{Legal}
 use Rattle.table.proofs.FileLaws.{legal-count}
 use Rattle.schedule.specs.declared.Job.{Job}
-use Rattle.schedule.specs.declared.Run.{Run}
 use Rattle.schedule.specs.JobArrays.{noJob, Bounded}
 use Rattle.schedule.proofs.JudgeLaws.{job-position}
-use Rattle.choice.specs.Choice.{keepNone, kept, discarded}
+use Rattle.choice.specs.Choice.{keepNone}
+use Rattle.choice.specs.KeepLists.{ChosenFor}
 use Rattle.placement.specs.Chains.{positions}
 use Rattle.orders.specs.KindOrder.{jobsLastFirst}
 use Rattle.orders.proofs.OrderLaws.{any-jobs, jobs-bounded}
-use Rattle.plans.specs.Planning.{unmetBy, chosenBy, runsBy, tooShort, markAt, marksBy, planRunsBy, planMade, madeBy}
-use Rattle.plans.specs.PlanParts.{fitsBy}
+use Rattle.plans.specs.declared.Planned.{Planned}
+use Rattle.plans.specs.Planning.{LentLists, unmetBy, chosenBy, runsBy, shortLists, tooShort, marksBy, planRunsBy, planMade, madeBy, replyBy, writtenBy, afterBy}
+use Rattle.plans.specs.PlanParts.{fitsBy, writtenWith, refusedBy}
 use Rattle.plans.specs.KindJobs.{HeldJobs}
 use Rattle.plans.proofs.JobPlans.{distinct-by, unmet-test, chosen-meets-by}
 use Rattle.plans.proofs.TableJobs.{kind-jobs}
 use Rattle.plans.proofs.PlanLaws.{jobs-below}
+use Rattle.plans.proofs.ReplyLaws.{jobs-refused, jobs-planned, lists-kept, lists-written}
 
 -- the lists are long enough
 pub record Room (n marks starts ends tasks : ℕ) : Type 0 where
@@ -79,31 +79,42 @@ module _ (nested : Bool) (jobs : List Job) (n : ℕ) (held : HeldJobs nested job
       let fit = fitsBy nested (firstPlaces noJob jobs n) (keepNone (firstPlaces noJob jobs n)) in
       not-false fit (sym (unmet-test nested n (firstPlaces noJob jobs n) below) ∙ le-ltb (unmetBy nested n (firstPlaces noJob jobs n)) n l)
 
-  -- An array that holds their keep list.
-  module _ (none : fitsBy nested (firstPlaces noJob jobs n) (keepNone (firstPlaces noJob jobs n)) ≡ true) (keeps : List Bool)
-      (list : firstPlaces false keeps n ≡ chosenBy nested (firstPlaces noJob jobs n)) where
-    -- it fits
-    pub array-fits : fitsBy nested (firstPlaces noJob jobs n) (firstPlaces false keeps n) ≡ true
-    array-fits = rw list (chosen-meets-by nested (firstPlaces noJob jobs n) none .fit)
+-- What planning jobs that stand in an array gives, from what is refused of them before they are planned.
+module _ (nested : Bool) (weight : ℕ → ℕ) (jobs : List Job) (n : ℕ) (lists : LentLists) (refusal : Planned)
+    (is : refusal ≡ refusedBy nested n (firstPlaces noJob jobs n) (length (lists .marks)) (length (lists .starts)) (length (lists .ends)) (length (lists .tasks)))
+  where
+    -- Where something is, it is the reply, and the lists stay.
+    pub refused-plan : eqb (refusal .number) 0 ≡ false
+        → (refusal ≡ replyBy nested weight n (firstPlaces noJob jobs n) lists) × (lists ≡ afterBy nested weight n (firstPlaces noJob jobs n) refusal lists)
+    refused-plan refuses = (
+      jobs-refused nested weight n (firstPlaces noJob jobs n) lists refusal is refuses,
+      lists-kept nested weight n (firstPlaces noJob jobs n) refusal lists refuses,
+    )
 
-    -- the marks put
-    pub array-marks : (lent : List ℕ)
-        → writtenFront (places (markAt (firstPlaces noJob jobs n) (firstPlaces false keeps n)) n) lent
-        ≡ writtenFront (marksBy nested n (firstPlaces noJob jobs n)) lent
-    unfolding marksBy
-    array-marks lent = ap (λ (list : List Bool). writtenFront (places (markAt (firstPlaces noJob jobs n) list) n) lent) list
+    -- Where nothing is,
+    module _ (zero-is : refusal .number ≡ 0) where
+      planned : (n ≤ unmetBy nested n (firstPlaces noJob jobs n)) × (shortLists n lists ≡ false)
+          × (madeBy nested weight (firstPlaces noJob jobs n) ≡ replyBy nested weight n (firstPlaces noJob jobs n) lists)
+      planned = jobs-planned nested weight n (firstPlaces noJob jobs n) lists refusal is zero-is
 
-    -- a column of the runs put
-    pub array-column : (part : Run → ℕ) (lent : List ℕ)
-        → writtenFront (map part (runsBy nested (firstPlaces noJob jobs n) (firstPlaces false keeps n))) lent
-        ≡ writtenFront (map part (planRunsBy nested (firstPlaces noJob jobs n))) lent
-    unfolding planRunsBy
-    array-column part lent = ap (λ (list : List Bool). writtenFront (map part (runsBy nested (firstPlaces noJob jobs n) list)) lent) list
+      -- the mandatory parts alone fit,
+      pub none-fit : HeldJobs nested jobs n → fitsBy nested (firstPlaces noJob jobs n) (keepNone (firstPlaces noJob jobs n)) ≡ true
+      none-fit held = array-none nested jobs n held (planned .0)
 
-    -- the reply
-    pub array-reply : (runs k d : ℕ) → runs ≡ length (runsBy nested (firstPlaces noJob jobs n) (firstPlaces false keeps n))
-        → k ≡ kept (firstPlaces noJob jobs n) (chosenBy nested (firstPlaces noJob jobs n))
-        → d ≡ discarded (firstPlaces noJob jobs n) (chosenBy nested (firstPlaces noJob jobs n))
-        → planMade k d runs ≡ madeBy nested (firstPlaces noJob jobs n)
-    unfolding madeBy planRunsBy
-    array-reply runs k d e f g = rw (e, f, g, list) refl
+      -- and what is put under the list that is chosen is the plan:
+      module _ (keeps : List Bool) (k d : ℕ) (list : ChosenFor (chosenBy nested weight) (firstPlaces noJob jobs n) keeps k d) where
+        -- it fits, and the lists are long enough,
+        pub put-known : HeldJobs nested jobs n → (fitsBy nested (firstPlaces noJob jobs n) keeps ≡ true) × (shortLists n lists ≡ false)
+        put-known held = (rw (list .0) (chosen-meets-by nested weight (firstPlaces noJob jobs n) (none-fit held) .fit), planned .1)
+
+        -- the reply and the lists are those of the plan.
+        pub put-plan : (reply : Planned) (new : LentLists) → reply ≡ planMade k d (length (runsBy nested (firstPlaces noJob jobs n) keeps))
+            → new ≡ writtenWith nested n (firstPlaces noJob jobs n) keeps lists
+            → (reply ≡ replyBy nested weight n (firstPlaces noJob jobs n) lists) × (new ≡ afterBy nested weight n (firstPlaces noJob jobs n) reply lists)
+        unfolding madeBy planRunsBy writtenWith writtenBy marksBy
+        put-plan reply new e f =
+            let made : reply ≡ madeBy nested weight (firstPlaces noJob jobs n) = e ∙ rw (list .0, list .1, list .2) in
+            let written : new ≡ writtenBy nested weight n (firstPlaces noJob jobs n) lists = f ∙ rw (list .0) in (
+              made ∙ planned .2,
+              written ∙ lists-written nested weight n (firstPlaces noJob jobs n) reply lists (ap (λ (p : Planned). p .number) made),
+            )

@@ -22,17 +22,17 @@ use Rattle.plans.proofs.PlanLaws.{plan-listed, plan-few}
 
 -- It has no more runs than a run list may have, none is empty, and none starts before the one before it ends. So a query of a plan is never
 -- refused, and where it answers that there is no run, there is none.
-pub plan-checked : (launch : ℕ) (t : Table) → Legal t → mandatoryFit launch t ≡ true → checkAnswer (planRuns launch t) ≡ checked.Accepted
+pub plan-checked : (launch : ℕ) (weight : ℕ → ℕ) (t : Table) → Legal t → mandatoryFit launch t ≡ true → checkAnswer (planRuns launch weight t) ≡ checked.Accepted
 unfolding tooMany
-plan-checked launch t legal fit =
-    let listed = plan-listed launch t legal fit in
-    let few = le-ltb maxRuns (length (planRuns launch t)) (omega (arith, plan-few launch t legal fit, legal-count legal)) in
-    ordered-accepted (planRuns launch t) few (listed .nonempty, listed .ordered)
+plan-checked launch weight t legal fit =
+    let listed = plan-listed launch weight t legal fit in
+    let few = le-ltb maxRuns (length (planRuns launch weight t)) (omega (arith, plan-few launch weight t legal fit, legal-count legal)) in
+    ordered-accepted (planRuns launch weight t) few (listed .nonempty, listed .ordered)
 
 -- Nor is its busy count, which is the number of ticks of the interval that the plan's runs hold.
-pub plan-busy : (launch : ℕ) (t : Table) → Legal t → mandatoryFit launch t ≡ true
-    → (a b : ℕ) → busyReply (planRuns launch t) a b ≡ record { number = 0; place = 0; ticks = ticksOwned (ownerOf (planRuns launch t)) a b }
+pub plan-busy : (launch : ℕ) (weight : ℕ → ℕ) (t : Table) → Legal t → mandatoryFit launch t ≡ true
+    → (a b : ℕ) → busyReply (planRuns launch weight t) a b ≡ record { number = 0; place = 0; ticks = ticksOwned (ownerOf (planRuns launch weight t)) a b }
 unfolding busyReply
-plan-busy launch t legal fit a b =
-    let accepted = plan-checked launch t legal fit in
-    rw (accepted, sum-owned (planRuns launch t) accepted a b)
+plan-busy launch weight t legal fit a b =
+    let accepted = plan-checked launch weight t legal fit in
+    rw (accepted, sum-owned (planRuns launch weight t) accepted a b)

@@ -17,7 +17,7 @@ use Rattle.clock.specs.Clock.{badLaunch}
 use Rattle.table.specs.declared.Answer.the-variants.{Accepted}
 use Rattle.table.specs.declared.Table.{Table}
 use Rattle.table.specs.Tables.{taskAt}
-use Rattle.table.specs.Reading.{tableIn, readAnswer}
+use Rattle.table.specs.Reading.{ReadTable}
 use Rattle.schedule.specs.declared.Job.{Job}
 use Rattle.schedule.specs.Jobs.{jobOf, jobAt, jobsOf, windowTicks, workOf}
 use Rattle.schedule.specs.Ticks.{Owner}
@@ -25,19 +25,19 @@ use Rattle.schedule.specs.Runnings.{got, Gets, Running, Whole}
 use Rattle.schedule.specs.Runs.{ownerOf}
 use Rattle.schedule.proofs.EmptyWindows.{empty-got, empty-gets, empty-running}
 use Rattle.plans.specs.Planning.{LentLists, planMarks, planRuns, planReply}
-use Rattle.plans.proofs.PlanLaws.{plan-together, marks-low, plan-impossible, Plannable}
+use Rattle.plans.proofs.PlanLaws.{plan-together, marks-low, plan-impossible, LegalRead, Plannable}
 use Rattle.plans.proofs.ReplyLaws.{plan-made}
 
 -- Where reading refuses nothing and the launch tick is accepted, a task with mandatory ticks in an empty window is refused.
-pub empty-refused : (launch : ℕ) (file : List ℕ) (lists : LentLists) → readAnswer file ≡ Accepted → badLaunch launch ≡ false
-    → (k : ℕ) → k < tableIn file .count → windowTicks (jobAt launch (tableIn file) k) ≡ 0 → 0 < taskAt (tableIn file) k .mandatory
-    → planReply launch file lists .number ≡ 8
+pub empty-refused : (launch : ℕ) (read : ReadTable) → LegalRead read → (lists : LentLists) → read .answer ≡ Accepted → badLaunch launch ≡ false
+    → (k : ℕ) → k < read .table .count → windowTicks (jobAt launch (read .table) k) ≡ 0 → 0 < taskAt (read .table) k .mandatory
+    → planReply launch read lists .number ≡ 8
 unfolding jobAt jobOf jobsOf
-empty-refused launch file lists accepted low k l e m =
-    plan-impossible launch file lists accepted low .1 (
+empty-refused launch read lawful lists accepted low k l e m =
+    plan-impossible launch read lawful lists accepted low .1 (
     λ owner r.
-    let gets = all-places (Gets Whole owner) (jobAt launch (tableIn file)) (tableIn file .count) .0 (r .gets) k l in
-    let none = empty-gets owner (jobAt launch (tableIn file) k) e .0 gets in
+    let gets = all-places (Gets Whole owner) (jobAt launch (read .table)) (read .table .count) .0 (r .gets) k l in
+    let none = empty-gets owner (jobAt launch (read .table) k) e .0 gets in
     omega arith
     )
 
@@ -46,15 +46,15 @@ abbrev pub otherJobs : ℕ → Table → ℕ → List Job
 otherJobs launch t k = places (jobAt launch t) k ++ placesFrom (jobAt launch t) (k + 1) (t .count - (k + 1))
 
 -- Where such a task has no mandatory ticks, 8 is sent exactly where the other tasks have no running.
-pub empty-planned : (launch : ℕ) (file : List ℕ) (lists : LentLists) → readAnswer file ≡ Accepted → badLaunch launch ≡ false
-    → (k : ℕ) → k < tableIn file .count → windowTicks (jobAt launch (tableIn file) k) ≡ 0 → taskAt (tableIn file) k .mandatory ≡ 0
-    → (planReply launch file lists .number ≡ 8) ↔ ((owner : Owner) → Running (otherJobs launch (tableIn file) k) owner → ⊥)
+pub empty-planned : (launch : ℕ) (read : ReadTable) → LegalRead read → (lists : LentLists) → read .answer ≡ Accepted → badLaunch launch ≡ false
+    → (k : ℕ) → k < read .table .count → windowTicks (jobAt launch (read .table) k) ≡ 0 → taskAt (read .table) k .mandatory ≡ 0
+    → (planReply launch read lists .number ≡ 8) ↔ ((owner : Owner) → Running (otherJobs launch (read .table) k) owner → ⊥)
 unfolding jobAt jobOf jobsOf
-empty-planned launch file lists accepted low k l e z =
-    let t : Table = tableIn file in
+empty-planned launch read lawful lists accepted low k l e z =
+    let t : Table = read .table in
     let split : jobsOf launch t ≡ places (jobAt launch t) k ++ jobAt launch t k ∷ placesFrom (jobAt launch t) (k + 1) (t .count - (k + 1)) =
     places-around (jobAt launch t) (t .count) k l in
-    let eight = plan-impossible launch file lists accepted low in
+    let eight = plan-impossible launch read lawful lists accepted low in
     let beside : (owner : Owner) → Running (jobsOf launch t) owner ↔ ((taskAt t k .mandatory ≡ 0) × Running (otherJobs launch t k) owner) =
     λ owner. rw split (empty-running owner (places (jobAt launch t) k) (placesFrom (jobAt launch t) (k + 1) (t .count - (k + 1))) (jobAt launch t k) e) in
     (λ n owner r. eight .0 n owner (beside owner .1 (z, r)), λ none. eight .1 (λ owner r. none owner (beside owner .0 r .1)))
@@ -67,17 +67,17 @@ no-work mandatory optional (suc k) low e =
     (omega arith, λ p. absurd (omega arith))
 
 -- In a planned table the task of an empty window has no mandatory ticks, and its optional part, where it has ticks, is dropped.
-pub empty-dropped : (launch : ℕ) (file : List ℕ) (lists : LentLists) → planReply launch file lists .number ≡ 0
-    → (k : ℕ) → k < tableIn file .count → windowTicks (jobAt launch (tableIn file) k) ≡ 0
-    → (taskAt (tableIn file) k .mandatory ≡ 0) × (0 < taskAt (tableIn file) k .optional → getD (planMarks launch (tableIn file)) k 0 ≡ 0)
+pub empty-dropped : (launch : ℕ) (read : ReadTable) → LegalRead read → (lists : LentLists) → planReply launch read lists .number ≡ 0
+    → (k : ℕ) → k < read .table .count → windowTicks (jobAt launch (read .table) k) ≡ 0
+    → (taskAt (read .table) k .mandatory ≡ 0) × (0 < taskAt (read .table) k .optional → getD (planMarks launch (read .weight) (read .table)) k 0 ≡ 0)
 unfolding jobAt jobOf jobsOf
-empty-dropped launch file lists planned k l e =
-    let t : Table = tableIn file in
-    let p : Plannable launch file = plan-made launch file lists planned .made in
+empty-dropped launch read lawful lists planned k l e =
+    let t : Table = read .table in
+    let p : Plannable launch read = plan-made launch read lawful lists planned .made in
     let works =
-    all-places (λ job. got (ownerOf (planRuns launch t)) job ≡ workOf job (getD (planMarks launch t) (job .position) 0)) (jobAt launch t) (t .count) .0
-    (plan-together launch t (p .legal) (p .none) .work)
+    all-places (λ job. got (ownerOf (planRuns launch (read .weight) t)) job ≡ workOf job (getD (planMarks launch (read .weight) t) (job .position) 0)) (jobAt launch t) (t .count) .0
+    (plan-together launch (read .weight) t (p .legal) (p .none) .work)
     k
     l in
-    no-work (taskAt t k .mandatory) (taskAt t k .optional) (getD (planMarks launch t) k 0) (marks-low launch t (p .legal) (p .none) k l)
-    (sym (empty-got (ownerOf (planRuns launch t)) (jobAt launch t k) e) ∙ works)
+    no-work (taskAt t k .mandatory) (taskAt t k .optional) (getD (planMarks launch (read .weight) t) k 0) (marks-low launch (read .weight) t (p .legal) (p .none) k l)
+    (sym (empty-got (ownerOf (planRuns launch (read .weight) t)) (jobAt launch t k) e) ∙ works)

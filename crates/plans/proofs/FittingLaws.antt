@@ -19,13 +19,13 @@ use Rattle.table.specs.declared.Table.{Table}
 use Rattle.table.specs.Kinds.{isNested}
 use Rattle.schedule.specs.Jobs.{jobOf, jobAt, workOf, counts}
 use Rattle.schedule.specs.Ticks.{oneIf}
-use Rattle.schedule.specs.Judging.{discardedCount, countMarked}
+use Rattle.schedule.specs.Judging.{markedWeight}
 use Rattle.schedule.proofs.JudgeLaws.{job-position}
-use Rattle.choice.specs.Choice.{worksOf, keptWorth, keptTicks, discardedWorth, discarded}
+use Rattle.choice.specs.Choice.{worksOf, keptWorth, keptTicks, discardedWorth, weighed}
 use Rattle.choice.proofs.FitLaws.{discarded-cons}
 use Rattle.placement.proofs.PlanLaws.{SameMarks}
 use Rattle.orders.specs.KindOrder.{kindBefore, orderLastFirst, jobsLastFirst}
-use Rattle.orders.proofs.SortLaws.{order-length, sumOver, sum-order, count-order}
+use Rattle.orders.proofs.SortLaws.{order-length, sumOver, sum-order}
 use Rattle.orders.proofs.OrderLaws.{jobs-length, jobs-distinct}
 use Rattle.orders.proofs.BeforeLaws.{all-order, order-all}
 use Rattle.plans.specs.Planning.{markAt}
@@ -127,13 +127,16 @@ module _ (launch : ℕ) (t : Table) where
     ticks-by [] = refl
     ticks-by (j ∷ js) = ap (λ (x : ℕ). pick (keepAt marks j) (jobAt launch t j .optional) 0 + x) (ticks-by js)
 
-    discarded-by : (js : List ℕ) → All (λ k. getD marks k 0 ≤ 1) js
-        → discarded (map (jobAt launch t) js) (map (keepAt marks) js) ≡ sumOver (λ k. oneIf (and (counts (jobAt launch t k)) (eqb (getD marks k 0) 0))) js
+    abbrev discardedAt : (ℕ → ℕ) → ℕ → ℕ
+    discardedAt weight k = pick (and (counts (jobAt launch t k)) (eqb (getD marks k 0) 0)) (weight (jobAt launch t k .position)) 0
+
+    discarded-by : (weight : ℕ → ℕ) (js : List ℕ) → All (λ k. getD marks k 0 ≤ 1) js
+        → discardedWorth (weighed weight) (map (jobAt launch t) js) (map (keepAt marks) js) ≡ sumOver (discardedAt weight) js
     unfolding discardedWorth
-    discarded-by [] l = refl
-    discarded-by (j ∷ js) l =
-        discarded-cons (jobAt launch t j) (map (jobAt launch t) js) (keepAt marks j) (map (keepAt marks) js)
-        ∙ rw (low-mark (getD marks j 0) (l .0), discarded-by js (l .1))
+    discarded-by weight [] l = refl
+    discarded-by weight (j ∷ js) l =
+        discarded-cons weight (jobAt launch t j) (map (jobAt launch t) js) (keepAt marks j) (map (keepAt marks) js)
+        ∙ rw (low-mark (getD marks j 0) (l .0), discarded-by weight js (l .1))
 
     module _ (p : KeepList t marks) where
       -- The keep list fits exactly where the marks do,
@@ -156,12 +159,12 @@ module _ (launch : ℕ) (t : Table) where
       unfolding jobsLastFirst keptTicksOf orderLastFirst jobAt jobOf
       keeps-ticks = ticks-by (orderLastFirst t) ∙ sum-order (kindBefore t) (λ k. pick (keepAt marks k) (jobAt launch t k .optional) 0) (t .count)
 
-      -- and discards as many optional parts.
-      pub keeps-discarded : discarded (jobsLastFirst launch t) (keepsOf t marks) ≡ discardedCount t marks
-      unfolding jobsLastFirst countMarked orderLastFirst jobAt jobOf
-      keeps-discarded =
-          discarded-by (orderLastFirst t) (all-order t (λ k. getD marks k 0 ≤ 1) (p .low))
-          ∙ count-order (kindBefore t) (λ k. and (counts (jobAt launch t k)) (eqb (getD marks k 0) 0)) (t .count)
+      -- and discards as much weight.
+      pub keeps-discarded : (weight : ℕ → ℕ) → discardedWorth (weighed weight) (jobsLastFirst launch t) (keepsOf t marks) ≡ markedWeight 0 weight t marks
+      unfolding jobsLastFirst markedWeight orderLastFirst jobAt jobOf
+      keeps-discarded weight =
+          discarded-by weight (orderLastFirst t) (all-order t (λ k. getD marks k 0 ≤ 1) (p .low))
+          ∙ sum-order (kindBefore t) (discardedAt weight) (t .count)
 
   -- A keep list fits exactly where its marks by position do.
   pub fitting-exactly : (keeps : List Bool) → length keeps ≡ t .count

@@ -12,9 +12,9 @@ use Rattle.base.specs.Members.{All}
 use Rattle.base.specs.Arrays.{Distinct}
 use Rattle.schedule.specs.declared.Job.{Job}
 use Rattle.schedule.specs.Ticks.{Owner}
-use Rattle.schedule.specs.Runnings.{Running, discards}
+use Rattle.schedule.specs.Runnings.{Running, discardedWeight}
 use Rattle.schedule.specs.Runs.{Together}
-use Rattle.choice.specs.Choice.{keepNone, choiceKey, keptTicks, countOne, discarded}
+use Rattle.choice.specs.Choice.{keepNone, choiceKey, keptTicks, discardedWorth, weighed}
 use Rattle.choice.specs.KeepLists.{KeepsFirst, ZeroKept}
 use Rattle.choice.proofs.FitLaws.{fits-length, none-fits}
 use Rattle.choice.proofs.LexLaws.{LexAtMost}
@@ -102,11 +102,11 @@ running-by true jobs keeps c e = placed-running jobs keeps c e
 running-by false jobs keeps s e = order-running jobs keeps s e
 
 -- that discards what the list discards.
-pub discards-by : (nested : Bool) (jobs : List Job) (keeps : List Bool) → JobsOfKind nested jobs → fitsBy nested jobs keeps ≡ true
-    → discards jobs (placedBy nested jobs keeps) ≡ discarded jobs keeps
+pub discards-by : (nested : Bool) (weight : ℕ → ℕ) (jobs : List Job) (keeps : List Bool) → JobsOfKind nested jobs → fitsBy nested jobs keeps ≡ true
+    → discardedWeight weight jobs (placedBy nested jobs keeps) ≡ discardedWorth (weighed weight) jobs keeps
 unfolding fitsBy placedBy
-discards-by true jobs keeps c e = placed-discards jobs keeps c e
-discards-by false jobs keeps s e = order-discards jobs keeps s e
+discards-by true weight jobs keeps c e = placed-discards weight jobs keeps c e
+discards-by false weight jobs keeps s e = order-discards weight jobs keeps s e
 
 -- So a running of the jobs exists exactly where the mandatory parts alone fit.
 pub exists-by : (nested : Bool) (jobs : List Job) → JobsOfKind nested jobs
@@ -117,25 +117,25 @@ exists-by nested jobs k = (
 )
 
 -- The chosen list, where the mandatory parts alone fit, marks each optional part of 0 ticks as kept.
-pub zero-by : (nested : Bool) (jobs : List Job) → fitsBy nested jobs (keepNone jobs) ≡ true → ZeroKept jobs (chosenBy nested jobs)
+pub zero-by : (nested : Bool) (weight : ℕ → ℕ) (jobs : List Job) → fitsBy nested jobs (keepNone jobs) ≡ true → ZeroKept jobs (chosenBy nested weight jobs)
 unfolding fitsBy chosenBy
-zero-by true jobs none = chosen-zero-kept jobs none
-zero-by false jobs none = order-zero-kept jobs none
+zero-by true weight jobs none = chosen-zero-kept weight jobs none
+zero-by false weight jobs none = order-zero-kept weight jobs none
 
 -- What the rules ask of the list that is taken: those of nested tables, or those of similar ones, which have no rule on kept ticks.
-pub record MeetsBy (nested : Bool) (jobs : List Job) (keeps : List Bool) : Type 0 where
+pub record MeetsBy (nested : Bool) (weight : ℕ → ℕ) (jobs : List Job) (keeps : List Bool) : Type 0 where
   pub fit : fitsBy nested jobs keeps ≡ true
-  pub leastDiscarded : (other : List Bool) → fitsBy nested jobs other ≡ true → discarded jobs keeps ≤ discarded jobs other
-  pub leastTicks : nested ≡ true → (other : List Bool) → fitsBy nested jobs other ≡ true → discarded jobs other ≡ discarded jobs keeps
+  pub leastDiscarded : (other : List Bool) → fitsBy nested jobs other ≡ true → discardedWorth (weighed weight) jobs keeps ≤ discardedWorth (weighed weight) jobs other
+  pub leastTicks : nested ≡ true → (other : List Bool) → fitsBy nested jobs other ≡ true → discardedWorth (weighed weight) jobs other ≡ discardedWorth (weighed weight) jobs keeps
       → keptTicks jobs keeps ≤ keptTicks jobs other
-  pub last : (other : List Bool) → fitsBy nested jobs other ≡ true → discarded jobs other ≡ discarded jobs keeps
+  pub last : (other : List Bool) → fitsBy nested jobs other ≡ true → discardedWorth (weighed weight) jobs other ≡ discardedWorth (weighed weight) jobs keeps
       → (nested ≡ true → keptTicks jobs other ≡ keptTicks jobs keeps) → (other ≡ keeps) ⊎ KeepsFirst keeps other
 
 -- The chosen list meets them,
-pub chosen-meets-by : (nested : Bool) (jobs : List Job) → fitsBy nested jobs (keepNone jobs) ≡ true → MeetsBy nested jobs (chosenBy nested jobs)
+pub chosen-meets-by : (nested : Bool) (weight : ℕ → ℕ) (jobs : List Job) → fitsBy nested jobs (keepNone jobs) ≡ true → MeetsBy nested weight jobs (chosenBy nested weight jobs)
 unfolding fitsBy chosenBy LexAtMost choiceKey choiceKeyInOrder
-chosen-meets-by true jobs none =
-    let b = nests.chosen-best countOne jobs none in
+chosen-meets-by true weight jobs none =
+    let b = nests.chosen-best (weighed weight) jobs none in
     record {
       fit = b .fit;
       leastDiscarded = λ other e. b .least other e .0;
@@ -143,8 +143,8 @@ chosen-meets-by true jobs none =
       last = λ other e d t.
           atMost-first _ other (omega (arith, fits-length jobs _ (b .fit), fits-length jobs other e)) (b .least other e .1 (sym d) .1 (sym (t refl)));
     }
-chosen-meets-by false jobs none =
-    let b = orders.chosen-best countOne jobs none in
+chosen-meets-by false weight jobs none =
+    let b = orders.chosen-best (weighed weight) jobs none in
     record {
       fit = b .fit;
       leastDiscarded = λ other e. b .least other e .0;
@@ -154,10 +154,10 @@ chosen-meets-by false jobs none =
     }
 
 -- and a list that meets them is the chosen one.
-pub meets-chosen-by : (nested : Bool) (jobs : List Job) (keeps : List Bool) → MeetsBy nested jobs keeps → keeps ≡ chosenBy nested jobs
+pub meets-chosen-by : (nested : Bool) (weight : ℕ → ℕ) (jobs : List Job) (keeps : List Bool) → MeetsBy nested weight jobs keeps → keeps ≡ chosenBy nested weight jobs
 unfolding fitsBy chosenBy LexAtMost choiceKey choiceKeyInOrder
-meets-chosen-by true jobs keeps m =
-    nests.best-unique countOne jobs keeps _
+meets-chosen-by true weight jobs keeps m =
+    nests.best-unique (weighed weight) jobs keeps _
     (record {
       fit = m .fit;
       least = λ other e. (
@@ -165,21 +165,21 @@ meets-chosen-by true jobs keeps m =
         λ d. (m .leastTicks refl other e (sym d), λ c. marks-least keeps other (m .last other e (sym d) (λ n. sym c))),
       );
     })
-    (nests.chosen-best countOne jobs (none-fits jobs keeps (m .fit)))
-meets-chosen-by false jobs keeps m =
-    orders.order-unique countOne jobs keeps _
+    (nests.chosen-best (weighed weight) jobs (none-fits jobs keeps (m .fit)))
+meets-chosen-by false weight jobs keeps m =
+    orders.order-unique (weighed weight) jobs keeps _
     (record {
       fit = m .fit;
       least = λ other e. (m .leastDiscarded other e, λ d. marks-least keeps other (m .last other e (sym d) (λ n. both-absurd false n refl)));
     })
-    (orders.chosen-best countOne jobs (none-earliest jobs keeps (m .fit) .0))
+    (orders.chosen-best (weighed weight) jobs (none-earliest jobs keeps (m .fit) .0))
 
--- Every running of the jobs discards at least as many parts as the chosen list.
-pub least-by : (nested : Bool) (jobs : List Job) → JobsOfKind nested jobs → fitsBy nested jobs (keepNone jobs) ≡ true
-    → (owner : Owner) → Running jobs owner → discarded jobs (chosenBy nested jobs) ≤ discards jobs owner
-least-by nested jobs k none owner r =
+-- Every running of the jobs discards at least as much weight as the chosen list.
+pub least-by : (nested : Bool) (weight : ℕ → ℕ) (jobs : List Job) → JobsOfKind nested jobs → fitsBy nested jobs (keepNone jobs) ≡ true
+    → (owner : Owner) → Running jobs owner → discardedWorth (weighed weight) jobs (chosenBy nested weight jobs) ≤ discardedWeight weight jobs owner
+least-by nested weight jobs k none owner r =
     omega (
       arith,
-      chosen-meets-by nested jobs none .leastDiscarded (marksOf jobs owner) (running-fits-by nested jobs owner k r),
-      running-discards jobs owner r,
+      chosen-meets-by nested weight jobs none .leastDiscarded (marksOf jobs owner) (running-fits-by nested jobs owner k r),
+      running-discards weight jobs owner r,
     )

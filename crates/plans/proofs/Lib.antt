@@ -17,5 +17,6 @@ pub mod ReplyLaws
 pub mod ShiftLaws
 pub mod LaunchLaws
 pub mod EmptyWindows
+pub mod EqualWeights
 pub mod CallLaws
 pub mod ArrayLaws

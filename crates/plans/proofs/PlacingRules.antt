@@ -164,22 +164,22 @@ placed-as launch false t keeps s e =
     }
 
 -- The plan of an accepted table whose mandatory parts fit.
-module _ (launch : ℕ) (t : Table) (legal : Legal t) (none : mandatoryFit launch t ≡ true) where
+module _ (launch : ℕ) (weight : ℕ → ℕ) (t : Table) (legal : Legal t) (none : mandatoryFit launch t ≡ true) where
   -- Its work is placed as the rules of its kind say.
-  pub plan-placed : PlacedAs launch (isNested t) t (ownerOf (planRuns launch t))
-  plan-placed = rw (plan-owner launch t legal none) (placed-as launch (isNested t) t (chosenMarks launch t) (kind-jobs launch t legal) (keeps-fit launch t legal none))
+  pub plan-placed : PlacedAs launch (isNested t) t (ownerOf (planRuns launch weight t))
+  plan-placed = rw (plan-owner launch weight t legal none) (placed-as launch (isNested t) t (chosenMarks launch weight t) (kind-jobs launch t legal) (keeps-fit launch weight t legal none))
 
   -- its runs are longest stretches
-  plan-stretches : All (LongestStretch (placedBy (isNested t) (jobsLastFirst launch t) (chosenMarks launch t))) (planRuns launch t)
+  plan-stretches : All (LongestStretch (placedBy (isNested t) (jobsLastFirst launch t) (chosenMarks launch weight t))) (planRuns launch weight t)
   unfolding planRuns planRunsBy chosenMarks
-  plan-stretches = longest-by (isNested t) (jobsLastFirst launch t) (chosenMarks launch t) (kind-jobs launch t legal) (keeps-fit launch t legal none)
+  plan-stretches = longest-by (isNested t) (jobsLastFirst launch t) (chosenMarks launch weight t) (kind-jobs launch t legal) (keeps-fit launch weight t legal none)
 
   -- Its runs are longest stretches, by start, and never more than 2n − 1.
-  pub plan-longest : LongestRuns t (planRuns launch t)
+  pub plan-longest : LongestRuns t (planRuns launch weight t)
   unfolding eachFollows
   plan-longest =
       record {
-        stretches = rw (plan-owner launch t legal none) plan-stretches;
-        by-start = starts-rise 0 (planRuns launch t) (plan-listed launch t legal none .nonempty) (plan-listed launch t legal none .ordered);
-        few = omega (arith, plan-few launch t legal none, legal-count legal);
+        stretches = rw (plan-owner launch weight t legal none) plan-stretches;
+        by-start = starts-rise 0 (planRuns launch weight t) (plan-listed launch weight t legal none .nonempty) (plan-listed launch weight t legal none .ordered);
+        few = omega (arith, plan-few launch weight t legal none, legal-count legal);
       }

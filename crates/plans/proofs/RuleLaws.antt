@@ -15,8 +15,8 @@ use Rattle.table.specs.declared.Table.{Table}
 use Rattle.table.specs.Tables.{taskAt}
 use Rattle.table.specs.Kinds.{isNested}
 use Rattle.schedule.specs.Jobs.{jobOf, jobAt}
-use Rattle.schedule.specs.Judging.{discardedCount}
-use Rattle.choice.specs.Choice.{keptTicks, discarded}
+use Rattle.schedule.specs.Judging.{markedWeight}
+use Rattle.choice.specs.Choice.{keptTicks, discardedWorth, weighed}
 use Rattle.choice.specs.KeepLists.{KeepsFirst, ZeroKept}
 use Rattle.choice.proofs.TieLaws.{first-cons}
 use Rattle.orders.specs.KindOrder.{kindBefore, orderLastFirst, jobsLastFirst}
@@ -96,7 +96,7 @@ module _ (t : Table) (f g : ℕ → Bool) where
       (λ q. both-absurd (f j) (differing (λ e. both-absurd (g j) q (sym e ∙ p))) p)
       (λ q. agreeing (p ∙ sym q)))
 
-module _ (launch : ℕ) (t : Table) where
+module _ (launch : ℕ) (weight : ℕ → ℕ) (t : Table) where
   -- a keep list that keeps each part of no length, by its marks
   zero-marks : (marks js : List ℕ) → ZeroKept (map (jobAt launch t) js) (map (keepAt marks) js)
       → All (λ k. jobAt launch t k .optional ≡ 0 → getD marks k 0 ≡ 1) js
@@ -109,24 +109,24 @@ module _ (launch : ℕ) (t : Table) where
   zero-by-position marks z = order-all t (λ k. taskAt t k .optional ≡ 0 → getD marks k 0 ≡ 1) (zero-marks marks (orderLastFirst t) z)
 
   -- A list whose keep list meets the rules follows them by position,
-  meets-by-rules : (marks : List ℕ) → KeepList t marks → MeetsBy (isNested t) (jobsLastFirst launch t) (keepsOf t marks)
-      → ZeroKept (jobsLastFirst launch t) (keepsOf t marks) → ByRules launch t marks
+  meets-by-rules : (marks : List ℕ) → KeepList t marks → MeetsBy (isNested t) weight (jobsLastFirst launch t) (keepsOf t marks)
+      → ZeroKept (jobsLastFirst launch t) (keepsOf t marks) → ByRules launch weight t marks
   meets-by-rules marks p m z =
-      let mine : discarded (jobsLastFirst launch t) (keepsOf t marks) ≡ discardedCount t marks = keeps-discarded launch t marks p in
+      let mine : discardedWorth (weighed weight) (jobsLastFirst launch t) (keepsOf t marks) ≡ markedWeight 0 weight t marks = keeps-discarded launch t marks p weight in
       let ticks : keptTicks (jobsLastFirst launch t) (keepsOf t marks) ≡ keptTicksOf t marks = keeps-ticks launch t marks p in
       record {
         fit = keeps-fitting launch t marks p .0 (m .fit);
         fewest = λ other f.
-            omega (arith, keeps-discarded launch t other (f .list), m .leastDiscarded (keepsOf t other) (keeps-fitting launch t other (f .list) .1 f));
+            omega (arith, keeps-discarded launch t other (f .list) weight, m .leastDiscarded (keepsOf t other) (keeps-fitting launch t other (f .list) .1 f));
         least = λ n other f d.
             omega (
               arith,
               keeps-ticks launch t other (f .list),
-              m .leastTicks n (keepsOf t other) (keeps-fitting launch t other (f .list) .1 f) (keeps-discarded launch t other (f .list) ∙ (d ∙ sym mine)),
+              m .leastTicks n (keepsOf t other) (keeps-fitting launch t other (f .list) .1 f) (keeps-discarded launch t other (f .list) weight ∙ (d ∙ sym mine)),
             );
         last = λ other f d e k o.
             let first =
-            m .last (keepsOf t other) (keeps-fitting launch t other (f .list) .1 f) (keeps-discarded launch t other (f .list) ∙ (d ∙ sym mine))
+            m .last (keepsOf t other) (keeps-fitting launch t other (f .list) .1 f) (keeps-discarded launch t other (f .list) weight ∙ (d ∙ sym mine))
             (λ n. keeps-ticks launch t other (f .list) ∙ (e n ∙ sym ticks)) in
             eqb-true (getD marks k 0) 1
             (first-by-position t (keepAt marks) (keepAt other) (orderLastFirst t) (kind-falls t) first k (among-order t k (o .known))
@@ -143,18 +143,18 @@ module _ (launch : ℕ) (t : Table) where
     other-fitting : Fitting launch t (marksOf launch t other)
     other-fitting = fitting-exactly launch t other other-length .0 e
 
-    other-discarded : discarded (jobsLastFirst launch t) other ≡ discardedCount t (marksOf launch t other)
-    other-discarded = rw (keeps-back launch t other other-length) at (keeps-discarded launch t (marksOf launch t other) (marks-list launch t other))
+    other-discarded : discardedWorth (weighed weight) (jobsLastFirst launch t) other ≡ markedWeight 0 weight t (marksOf launch t other)
+    other-discarded = rw (keeps-back launch t other other-length) at (keeps-discarded launch t (marksOf launch t other) (marks-list launch t other) weight)
 
     other-ticks : keptTicks (jobsLastFirst launch t) other ≡ keptTicksOf t (marksOf launch t other)
     other-ticks = rw (keeps-back launch t other other-length) at (keeps-ticks launch t (marksOf launch t other) (marks-list launch t other))
 
   -- and one that follows them by position has a keep list that meets them.
-  rules-meet : (marks : List ℕ) → ByRules launch t marks → MeetsBy (isNested t) (jobsLastFirst launch t) (keepsOf t marks)
+  rules-meet : (marks : List ℕ) → ByRules launch weight t marks → MeetsBy (isNested t) weight (jobsLastFirst launch t) (keepsOf t marks)
   rules-meet marks r =
       let order = orderLastFirst t in
       let p : KeepList t marks = r .fit .list in
-      let mine : discarded (jobsLastFirst launch t) (keepsOf t marks) ≡ discardedCount t marks = keeps-discarded launch t marks p in
+      let mine : discardedWorth (weighed weight) (jobsLastFirst launch t) (keepsOf t marks) ≡ markedWeight 0 weight t marks = keeps-discarded launch t marks p weight in
       let ticks : keptTicks (jobsLastFirst launch t) (keepsOf t marks) ≡ keptTicksOf t marks = keeps-ticks launch t marks p in
       record {
         fit = keeps-fitting launch t marks p .1 (r .fit);
@@ -178,27 +178,27 @@ module _ (launch : ℕ) (t : Table) where
       }
 
   -- The rules settle the list.
-  pub rules-one : (a b : List ℕ) → ByRules launch t a → ByRules launch t b → a ≡ b
+  pub rules-one : (a b : List ℕ) → ByRules launch weight t a → ByRules launch weight t b → a ≡ b
   rules-one a b p q =
       marks-one launch t a b (p .fit .list) (q .fit .list)
-      (meets-chosen-by (isNested t) (jobsLastFirst launch t) (keepsOf t a) (rules-meet a p)
-      ∙ sym (meets-chosen-by (isNested t) (jobsLastFirst launch t) (keepsOf t b) (rules-meet b q)))
+      (meets-chosen-by (isNested t) weight (jobsLastFirst launch t) (keepsOf t a) (rules-meet a p)
+      ∙ sym (meets-chosen-by (isNested t) weight (jobsLastFirst launch t) (keepsOf t b) (rules-meet b q)))
 
   -- Where the mandatory parts alone fit, the planner's marks follow the rules.
-  pub plan-by-rules : mandatoryFit launch t ≡ true → ByRules launch t (planMarks launch t)
+  pub plan-by-rules : mandatoryFit launch t ≡ true → ByRules launch weight t (planMarks launch weight t)
   unfolding planMarks marksBy chosenMarks mandatoryFit
   plan-by-rules none =
       let jobs = jobsLastFirst launch t in
-      let keeps = chosenBy (isNested t) jobs in
-      let meets = chosen-meets-by (isNested t) jobs none in
+      let keeps = chosenBy (isNested t) weight jobs in
+      let meets = chosen-meets-by (isNested t) weight jobs none in
       let back : keepsOf t (marksOf launch t keeps) ≡ keeps = keeps-back launch t keeps (length-by (isNested t) jobs keeps (meets .fit) ∙ jobs-length launch t) in
-      meets-by-rules (marksOf launch t keeps) (marks-list launch t keeps) (rw back meets) (rw back (zero-by (isNested t) jobs none))
+      meets-by-rules (marksOf launch t keeps) (marks-list launch t keeps) (rw back meets) (rw back (zero-by (isNested t) weight jobs none))
 
   -- Where some list follows them, the mandatory parts alone fit,
-  pub rules-fit : (marks : List ℕ) → ByRules launch t marks → mandatoryFit launch t ≡ true
+  pub rules-fit : (marks : List ℕ) → ByRules launch weight t marks → mandatoryFit launch t ≡ true
   unfolding mandatoryFit
   rules-fit marks r = none-by (isNested t) (jobsLastFirst launch t) (keepsOf t marks) (keeps-fitting launch t marks (r .fit .list) .1 (r .fit))
 
   -- and the list is the planner's.
-  pub rules-plan : (marks : List ℕ) → ByRules launch t marks → marks ≡ planMarks launch t
-  rules-plan marks r = rules-one marks (planMarks launch t) r (plan-by-rules (rules-fit marks r))
+  pub rules-plan : (marks : List ℕ) → ByRules launch weight t marks → marks ≡ planMarks launch weight t
+  rules-plan marks r = rules-one marks (planMarks launch weight t) r (plan-by-rules (rules-fit marks r))

@@ -286,10 +286,10 @@ lists-same t runs others same l m =
     (λ run h. stretch-among (ownerOf runs) runs (λ tick. refl) (l .stretches) run (all-members (LongestStretch (ownerOf runs)) others .0 longest run h))
 
 -- What a plan by the rules says of its owner.
-settled : (launch : ℕ) (t : Table) (marks : List ℕ) (runs : List Run) → PlanByRules launch t marks runs
+settled : (launch : ℕ) (weight : ℕ → ℕ) (t : Table) (marks : List ℕ) (runs : List Run) → PlanByRules launch weight t marks runs
     → Settled launch t (isNested t) (λ i. workOf (jobAt launch t i) (getD marks i 0)) (ownerOf runs)
 unfolding jobsOf jobAt jobOf
-settled launch t marks runs p =
+settled launch weight t marks runs p =
     record {
       window = λ tick i e. job-holds launch t tick i .0 (p .together .running .inside tick i e);
       works = all-places (λ job. got (ownerOf runs) job ≡ workOf job (getD marks (job .position) 0)) (jobAt launch t) (t .count) .0 (p .together .work);
@@ -297,29 +297,29 @@ settled launch t marks runs p =
     }
 
 -- Plans by the rules with the same marks have the same runs.
-pub rules-runs : (launch : ℕ) (t : Table) (marks : List ℕ) (runs others : List Run) → PlanByRules launch t marks runs → PlanByRules launch t marks others
+pub rules-runs : (launch : ℕ) (weight : ℕ → ℕ) (t : Table) (marks : List ℕ) (runs others : List Run) → PlanByRules launch weight t marks runs → PlanByRules launch weight t marks others
     → runs ≡ others
-rules-runs launch t marks runs others p q =
+rules-runs launch weight t marks runs others p q =
     lists-same t runs others
-    (owners-same launch t (isNested t) (λ i. workOf (jobAt launch t i) (getD marks i 0)) (ownerOf runs) (ownerOf others) (settled launch t marks runs p)
-    (settled launch t marks others q))
+    (owners-same launch t (isNested t) (λ i. workOf (jobAt launch t i) (getD marks i 0)) (ownerOf runs) (ownerOf others) (settled launch weight t marks runs p)
+    (settled launch weight t marks others q))
     (p .longest) (q .longest)
 
 -- The plan of an accepted table whose mandatory parts fit is one by the rules,
-pub plan-rules : (launch : ℕ) (t : Table) → Legal t → mandatoryFit launch t ≡ true → PlanByRules launch t (planMarks launch t) (planRuns launch t)
-plan-rules launch t legal fit =
+pub plan-rules : (launch : ℕ) (weight : ℕ → ℕ) (t : Table) → Legal t → mandatoryFit launch t ≡ true → PlanByRules launch weight t (planMarks launch weight t) (planRuns launch weight t)
+plan-rules launch weight t legal fit =
     record {
-      chosen = plan-by-rules launch t fit;
-      together = plan-optimal launch t legal fit .together;
-      placed = plan-placed launch t legal fit;
-      longest = plan-longest launch t legal fit;
+      chosen = plan-by-rules launch weight t fit;
+      together = plan-optimal launch weight t legal fit .together;
+      placed = plan-placed launch weight t legal fit;
+      longest = plan-longest launch weight t legal fit;
     }
 
 -- and there is no other.
-pub rules-settle : (launch : ℕ) (t : Table) (marks : List ℕ) (runs : List Run) → Legal t → PlanByRules launch t marks runs
-    → (marks ≡ planMarks launch t) × (runs ≡ planRuns launch t)
-rules-settle launch t marks runs legal p =
-    let same = rules-plan launch t marks (p .chosen) in (
+pub rules-settle : (launch : ℕ) (weight : ℕ → ℕ) (t : Table) (marks : List ℕ) (runs : List Run) → Legal t → PlanByRules launch weight t marks runs
+    → (marks ≡ planMarks launch weight t) × (runs ≡ planRuns launch weight t)
+rules-settle launch weight t marks runs legal p =
+    let same = rules-plan launch weight t marks (p .chosen) in (
       same,
-      rules-runs launch t (planMarks launch t) runs (planRuns launch t) (rw same at p) (plan-rules launch t legal (rules-fit launch t marks (p .chosen))),
+      rules-runs launch weight t (planMarks launch weight t) runs (planRuns launch weight t) (rw same at p) (plan-rules launch weight t legal (rules-fit launch weight t marks (p .chosen))),
     )

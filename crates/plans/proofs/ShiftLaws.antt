@@ -51,10 +51,10 @@ fit-shift true c jobs keeps = choices.fits-shift c jobs keeps
 fit-shift false c jobs keeps = orders.fits-shift c jobs keeps
 
 -- the same list is chosen
-chosen-shift : (nested : Bool) (c : ℕ) (jobs : List Job) → chosenBy nested (laterJobs c jobs) ≡ chosenBy nested jobs
+chosen-shift : (nested : Bool) (weight : ℕ → ℕ) (c : ℕ) (jobs : List Job) → chosenBy nested weight (laterJobs c jobs) ≡ chosenBy nested weight jobs
 unfolding chosenBy
-chosen-shift true c jobs = choices.chosen-shift c jobs
-chosen-shift false c jobs = orders.chosen-shift c jobs
+chosen-shift true weight c jobs = choices.chosen-shift c weight jobs
+chosen-shift false weight c jobs = orders.chosen-shift c weight jobs
 
 -- the runs lie later by c ticks
 runs-shift : (nested : Bool) (c : ℕ) (jobs : List Job) (keeps : List Bool)
@@ -71,13 +71,13 @@ placed-by-shift true c jobs keeps = nests.placed-shift c jobs keeps
 placed-by-shift false c jobs keeps = orders.placed-shift c jobs keeps
 
 -- All that planning gives for jobs that lie later.
-pub plan-later : (nested : Bool) (c : ℕ) (jobs : List Job) → LaterPlan nested c jobs (laterJobs c jobs)
-plan-later nested c jobs =
+pub plan-later : (nested : Bool) (weight : ℕ → ℕ) (c : ℕ) (jobs : List Job) → LaterPlan nested weight c jobs (laterJobs c jobs)
+plan-later nested weight c jobs =
     record {
       unmet = λ n. unmet-shift nested c n jobs;
       fit = fit-shift nested c jobs;
       none = choices.none-shift c jobs;
-      keeps = chosen-shift nested c jobs;
+      keeps = chosen-shift nested weight c jobs;
       kept = choices.kept-shift c countOne (λ job. refl) jobs;
       discarded = choices.discarded-shift c countOne (λ job. refl) jobs;
       marks = mark-shift c jobs;
@@ -86,26 +86,26 @@ plan-later nested c jobs =
     }
 
 -- So the marks of a plan are the same, its runs lie later by c ticks, and the reply is the same, refusals too.
-pub marks-later : (nested : Bool) (c n : ℕ) (jobs : List Job) → marksBy nested n (laterJobs c jobs) ≡ marksBy nested n jobs
+pub marks-later : (nested : Bool) (weight : ℕ → ℕ) (c n : ℕ) (jobs : List Job) → marksBy nested weight n (laterJobs c jobs) ≡ marksBy nested weight n jobs
 unfolding marksBy
-marks-later nested c n jobs =
-    let l = plan-later nested c jobs in
-    rw (l .keeps, fun-ext (l .marks (chosenBy nested jobs)))
+marks-later nested weight c n jobs =
+    let l = plan-later nested weight c jobs in
+    rw (l .keeps, fun-ext (l .marks (chosenBy nested weight jobs)))
 
-pub runs-later : (nested : Bool) (c : ℕ) (jobs : List Job) → planRunsBy nested (laterJobs c jobs) ≡ laterRuns c (planRunsBy nested jobs)
+pub runs-later : (nested : Bool) (weight : ℕ → ℕ) (c : ℕ) (jobs : List Job) → planRunsBy nested weight (laterJobs c jobs) ≡ laterRuns c (planRunsBy nested weight jobs)
 unfolding planRunsBy
-runs-later nested c jobs =
-    let l = plan-later nested c jobs in
-    rw (l .keeps) (l .runs (chosenBy nested jobs))
+runs-later nested weight c jobs =
+    let l = plan-later nested weight c jobs in
+    rw (l .keeps) (l .runs (chosenBy nested weight jobs))
 
-pub made-later : (nested : Bool) (c : ℕ) (jobs : List Job) → madeBy nested (laterJobs c jobs) ≡ madeBy nested jobs
+pub made-later : (nested : Bool) (weight : ℕ → ℕ) (c : ℕ) (jobs : List Job) → madeBy nested weight (laterJobs c jobs) ≡ madeBy nested weight jobs
 unfolding madeBy
-made-later nested c jobs =
-    let l = plan-later nested c jobs in
-    let keeps = chosenBy nested jobs in
-    let count = ap length (runs-later nested c jobs) ∙ length-map (planRunsBy nested jobs) (laterRun c) in
+made-later nested weight c jobs =
+    let l = plan-later nested weight c jobs in
+    let keeps = chosenBy nested weight jobs in
+    let count = ap length (runs-later nested weight c jobs) ∙ length-map (planRunsBy nested weight jobs) (laterRun c) in
     rw (count, l .keeps, l .kept keeps, l .discarded keeps)
 
-pub reply-later : (nested : Bool) (c n : ℕ) (jobs : List Job) (lists : LentLists) → replyBy nested n (laterJobs c jobs) lists ≡ replyBy nested n jobs lists
+pub reply-later : (nested : Bool) (weight : ℕ → ℕ) (c n : ℕ) (jobs : List Job) (lists : LentLists) → replyBy nested weight n (laterJobs c jobs) lists ≡ replyBy nested weight n jobs lists
 unfolding replyBy
-reply-later nested c n jobs lists = rw (plan-later nested c jobs .unmet n, made-later nested c jobs)
+reply-later nested weight c n jobs lists = rw (plan-later nested weight c jobs .unmet n, made-later nested weight c jobs)

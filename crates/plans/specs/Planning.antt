@@ -12,21 +12,22 @@ use Rattle.base.specs.Lent.{ListParameter, writtenFront}
 use Rattle.clock.specs.Clock.{badLaunch}
 use Rattle.table.specs.declared.Table.{Table}
 use Rattle.table.specs.Kinds.{isNested}
-use Rattle.table.specs.Reading.{replyOnFile}
+use Rattle.table.specs.Reading.{ReadTable, replyOnRead}
 use Rattle.schedule.specs.declared.Job.{Job}
 use Rattle.schedule.specs.declared.Run.{Run}
 use Rattle.schedule.specs.Jobs.{windowTicks}
 use Rattle.schedule.specs.Ticks.{oneIf}
 use Rattle.schedule.specs.Runs.{startsOf, endsOf, tasksOf}
-use Rattle.choice.specs.Choice.{chosen, kept, discarded}
+use Rattle.choice.specs.Choice.{chosenOver, weighed, kept, discarded}
 use Rattle.placement.specs.Placing.{runsPlaced}
 use Rattle.placement.specs.ByPosition.{numberAt}
 use Rattle.sequence.specs.InOrder.{runsInOrder, firstLate}
-use Rattle.sequence.specs.OrderChoice.{chosenInOrder}
+use Rattle.sequence.specs.OrderChoice.{chosenInOrderOver}
 use Rattle.orders.specs.KindOrder.{jobsLastFirst}
 use Rattle.plans.specs.declared.Planned.{Planned}
 
--- The plan of jobs, of a nested table or of a similar one. They stand in the order of the table's kind, last first: of a nested table outermost first.
+-- The plan of jobs, of a nested table or of a similar one. They stand in the order of the table's kind, last first: of a nested table outermost first. What
+-- the optional part of position k weighs is `weight k`, 1 for every one where the table has no weights.
 
 -- 8 'names the first task in its kind's order where the mandatory ticks up to and with it can't be met'. Of a nested table it is the 'first task in nest
 -- order where the mandatory ticks up to and with it exceed its window': its position, among jobs in nest order that come after others of `sum` mandatory
@@ -42,8 +43,8 @@ unfoldable pub unmetBy : Bool → ℕ → List Job → ℕ
 unmetBy nested n jobs = pick nested (exceedingAfter n 0 (reverse jobs)) (firstLate n jobs)
 
 -- the keep list that is taken
-unfoldable pub chosenBy : Bool → List Job → List Bool
-chosenBy nested jobs = pick nested (chosen jobs) (chosenInOrder jobs)
+unfoldable pub chosenBy : Bool → (ℕ → ℕ) → List Job → List Bool
+chosenBy nested weight jobs = pick nested (chosenOver (weighed weight) jobs) (chosenInOrderOver (weighed weight) jobs)
 
 -- the runs of that placing
 unfoldable pub runsBy : Bool → List Job → List Bool → List Run
@@ -54,12 +55,12 @@ abbrev pub markAt : List Job → List Bool → ℕ → ℕ
 markAt jobs keeps = numberAt jobs (map oneIf keeps)
 
 -- the marks of a plan of n jobs: the keep list by position
-unfoldable pub marksBy : Bool → ℕ → List Job → List ℕ
-marksBy nested n jobs = places (markAt jobs (chosenBy nested jobs)) n
+unfoldable pub marksBy : Bool → (ℕ → ℕ) → ℕ → List Job → List ℕ
+marksBy nested weight n jobs = places (markAt jobs (chosenBy nested weight jobs)) n
 
 -- the runs of a plan, by start
-unfoldable pub planRunsBy : Bool → List Job → List Run
-planRunsBy nested jobs = runsBy nested jobs (chosenBy nested jobs)
+unfoldable pub planRunsBy : Bool → (ℕ → ℕ) → List Job → List Run
+planRunsBy nested weight jobs = runsBy nested jobs (chosenBy nested weight jobs)
 
 -- the reply of a refusal, and of a plan: parts that are not named are 0
 abbrev pub planDeclined : ℕ → ℕ → Planned
@@ -68,9 +69,10 @@ planDeclined number place = record { number = number; place = place; kept = 0; d
 abbrev pub planMade : ℕ → ℕ → ℕ → Planned
 planMade kept discarded runs = record { number = 0; place = 0; kept = kept; discarded = discarded; runs = runs }
 
--- the reply of a plan of jobs
-unfoldable pub madeBy : Bool → List Job → Planned
-madeBy nested jobs = planMade (kept jobs (chosenBy nested jobs)) (discarded jobs (chosenBy nested jobs)) (length (planRunsBy nested jobs))
+-- the reply of a plan of jobs: kept and discarded are counts, whatever the parts weigh
+unfoldable pub madeBy : Bool → (ℕ → ℕ) → List Job → Planned
+madeBy nested weight jobs =
+    planMade (kept jobs (chosenBy nested weight jobs)) (discarded jobs (chosenBy nested weight jobs)) (length (planRunsBy nested weight jobs))
 
 -- The lists that a caller lends to planning: the marks, and the columns of the runs.
 pub record LentLists : Type 0 where
@@ -103,43 +105,47 @@ abbrev pub shortLists : ℕ → LentLists → Bool
 shortLists n lists = tooShort n (length (lists .marks)) (length (lists .starts)) (length (lists .ends)) (length (lists .tasks))
 
 -- what planning replies on n jobs: 8, then 9, then the plan
-unfoldable pub replyBy : Bool → ℕ → List Job → LentLists → Planned
-replyBy nested n jobs lists =
+unfoldable pub replyBy : Bool → (ℕ → ℕ) → ℕ → List Job → LentLists → Planned
+replyBy nested weight n jobs lists =
     pick (ltb (unmetBy nested n jobs) n) (planDeclined 8 (unmetBy nested n jobs))
-    (pick (shortLists n lists) (planDeclined 9 0) (madeBy nested jobs))
+    (pick (shortLists n lists) (planDeclined 9 0) (madeBy nested weight jobs))
 
 -- the lists with the marks and the runs of their plan written at the fronts
-unfoldable pub writtenBy : Bool → ℕ → List Job → LentLists → LentLists
-writtenBy nested n jobs lists =
+unfoldable pub writtenBy : Bool → (ℕ → ℕ) → ℕ → List Job → LentLists → LentLists
+writtenBy nested weight n jobs lists =
     record {
-      marks = writtenFront (marksBy nested n jobs) (lists .marks);
-      starts = writtenFront (startsOf (planRunsBy nested jobs)) (lists .starts);
-      ends = writtenFront (endsOf (planRunsBy nested jobs)) (lists .ends);
-      tasks = writtenFront (tasksOf (planRunsBy nested jobs)) (lists .tasks);
+      marks = writtenFront (marksBy nested weight n jobs) (lists .marks);
+      starts = writtenFront (startsOf (planRunsBy nested weight jobs)) (lists .starts);
+      ends = writtenFront (endsOf (planRunsBy nested weight jobs)) (lists .ends);
+      tasks = writtenFront (tasksOf (planRunsBy nested weight jobs)) (lists .tasks);
     }
 
 -- what they hold after planning n jobs that got a reply: a refusal leaves them as they were
-unfoldable pub afterBy : Bool → ℕ → List Job → Planned → LentLists → LentLists
-afterBy nested n jobs reply lists = pick (eqb (reply .number) 0) (writtenBy nested n jobs lists) lists
+unfoldable pub afterBy : Bool → (ℕ → ℕ) → ℕ → List Job → Planned → LentLists → LentLists
+afterBy nested weight n jobs reply lists = pick (eqb (reply .number) 0) (writtenBy nested weight n jobs lists) lists
 
 -- The plan of a table at a launch tick, which is that of its jobs in the order of its kind, last first.
 
 -- the marks: the keep list by position
-unfoldable pub planMarks : ℕ → Table → List ℕ
-planMarks launch t = marksBy (isNested t) (t .count) (jobsLastFirst launch t)
+unfoldable pub planMarks : ℕ → (ℕ → ℕ) → Table → List ℕ
+planMarks launch weight t = marksBy (isNested t) weight (t .count) (jobsLastFirst launch t)
 
 -- the runs, by start
-unfoldable pub planRuns : ℕ → Table → List Run
-planRuns launch t = planRunsBy (isNested t) (jobsLastFirst launch t)
+unfoldable pub planRuns : ℕ → (ℕ → ℕ) → Table → List Run
+planRuns launch weight t = planRunsBy (isNested t) weight (jobsLastFirst launch t)
 
 -- what planning replies on the table of an accepted file: 14, then 8 and 9, then the plan
-unfoldable pub planTable : ℕ → Table → LentLists → Planned
-planTable launch t lists = pick (badLaunch launch) (planDeclined 14 0) (replyBy (isNested t) (t .count) (jobsLastFirst launch t) lists)
+unfoldable pub planTable : ℕ → (ℕ → ℕ) → Table → LentLists → Planned
+planTable launch weight t lists = pick (badLaunch launch) (planDeclined 14 0) (replyBy (isNested t) weight (t .count) (jobsLastFirst launch t) lists)
 
--- the reply of planning: reading's refusals, then 14, 8 and 9
-unfoldable pub planReply : ℕ → List ℕ → LentLists → Planned
-planReply launch file lists = replyOnFile planDeclined (λ t. planTable launch t lists) file
+-- the reply of planning what was read of a file: reading's refusals, then 14, 8 and 9
+unfoldable pub planReply : ℕ → ReadTable → LentLists → Planned
+planReply launch read lists = replyOnRead planDeclined (λ t. planTable launch (read .weight) t lists) read
 
 -- what the lists hold after planning a table that got a reply
-unfoldable pub listsAfter : ℕ → Table → Planned → LentLists → LentLists
-listsAfter launch t reply lists = afterBy (isNested t) (t .count) (jobsLastFirst launch t) reply lists
+unfoldable pub listsAfter : ℕ → (ℕ → ℕ) → Table → Planned → LentLists → LentLists
+listsAfter launch weight t reply lists = afterBy (isNested t) weight (t .count) (jobsLastFirst launch t) reply lists
+
+-- the same of what was read
+abbrev pub listsLeft : ℕ → ReadTable → Planned → LentLists → LentLists
+listsLeft launch read reply lists = listsAfter launch (read .weight) (read .table) reply lists

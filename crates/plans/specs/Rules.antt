@@ -1,6 +1,7 @@
 -- The rules of choosing and placing, stated on positions and ticks: with no sorted list, no search and no walk over the ticks. Where the two kinds of
 -- tables have different rules, they stand one after the other. The theorems in proofs/ say that the plan of an accepted table follows them, and that
--- they settle its keep list, its runs and the place of an 8. `launch` is the launch tick: what knows windows in ticks takes it.
+-- they settle its keep list, its runs and the place of an 8. `launch` is the launch tick: what knows windows in ticks takes it. `weight k` is what the
+-- optional part of position k weighs, 1 for every one where the table has no weights.
 use Prim.Native.Nat.{ℕ, zero, suc, _+_, _≤_, _<_}
 use mathlib.Core.Path.{_≡_}
 use mathlib.Core.Logic.{_≢_, _⊎_}
@@ -14,14 +15,14 @@ use Rattle.base.specs.Members.{All}
 use Rattle.table.specs.declared.Table.{Table}
 use Rattle.table.specs.Tables.{taskAt}
 use Rattle.table.specs.Kinds.{isNested}
-use Rattle.table.specs.Reading.{tableIn}
+use Rattle.table.specs.Reading.{ReadTable}
 use Rattle.schedule.specs.declared.Job.{Job}
 use Rattle.schedule.specs.declared.Run.{Run}
 use Rattle.schedule.specs.Jobs.{jobAt, jobsOf, windowTicks, workOf}
 use Rattle.schedule.specs.Ticks.{Owner, sumBelow}
 use Rattle.schedule.specs.Runnings.{Running}
 use Rattle.schedule.specs.Runs.{noRun, ownerOf, Together}
-use Rattle.schedule.specs.Judging.{discardedCount}
+use Rattle.schedule.specs.Judging.{markedWeight}
 use Rattle.orders.specs.KindOrder.{kindBefore}
 use Rattle.plans.specs.declared.Planned.{Planned}
 use Rattle.plans.specs.Planning.{LentLists}
@@ -101,13 +102,14 @@ pub record LastDiffering (t : Table) (a b : List ℕ) (k : ℕ) : Type 0 where
 
 -- Nested tables: 'Among fitting lists the planner takes: one that discards fewest optional parts; then the least total of kept optional ticks; then, at
 -- the outermost task where two lists differ, the one that keeps.' Similar tables: 'Among fitting lists the one chosen discards fewest, then at the last
--- task in that order where two differ it keeps.' Both: 'An optional part of 0 ticks is marked 1 and enters neither count.'
-pub record ByRules (launch : ℕ) (t : Table) (marks : List ℕ) : Type 0 where
+-- task in that order where two differ it keeps.' Both: 'An optional part of 0 ticks is marked 1 and enters neither count.' Weighted tables: 'The least total
+-- weight is discarded, then the two tie rules of document 01'; where each part weighs 1, that is to discard fewest.
+pub record ByRules (launch : ℕ) (weight : ℕ → ℕ) (t : Table) (marks : List ℕ) : Type 0 where
   pub fit : Fitting launch t marks
-  pub fewest : (other : List ℕ) → Fitting launch t other → discardedCount t marks ≤ discardedCount t other
-  pub least : isNested t ≡ true → (other : List ℕ) → Fitting launch t other → discardedCount t other ≡ discardedCount t marks
+  pub fewest : (other : List ℕ) → Fitting launch t other → markedWeight 0 weight t marks ≤ markedWeight 0 weight t other
+  pub least : isNested t ≡ true → (other : List ℕ) → Fitting launch t other → markedWeight 0 weight t other ≡ markedWeight 0 weight t marks
       → keptTicksOf t marks ≤ keptTicksOf t other
-  pub last : (other : List ℕ) → Fitting launch t other → discardedCount t other ≡ discardedCount t marks
+  pub last : (other : List ℕ) → Fitting launch t other → markedWeight 0 weight t other ≡ markedWeight 0 weight t marks
       → (isNested t ≡ true → keptTicksOf t other ≡ keptTicksOf t marks) → (k : ℕ) → LastDiffering t marks other k → getD marks k 0 ≡ 1
   pub no-length : (k : ℕ) → k < t .count → taskAt t k .optional ≡ 0 → getD marks k 0 ≡ 1
 
@@ -164,18 +166,19 @@ pub record LongestRuns (t : Table) (runs : List Run) : Type 0 where
 -- The rules as clauses of the plan call.
 
 -- a plan by the rules: its marks are those that they take, each task gets ticks of its window, as many as its work, and its runs are placed as they say
-pub record PlanByRules (launch : ℕ) (t : Table) (marks : List ℕ) (runs : List Run) : Type 0 where
-  pub chosen : ByRules launch t marks
+pub record PlanByRules (launch : ℕ) (weight : ℕ → ℕ) (t : Table) (marks : List ℕ) (runs : List Run) : Type 0 where
+  pub chosen : ByRules launch weight t marks
   pub together : Together (jobsOf launch t) marks runs
   pub placed : PlacedAs launch (isNested t) t (ownerOf runs)
   pub longest : LongestRuns t runs
 
 -- of every table that was planned
-abbrev pub PlannedByRules : ℕ → List ℕ → Planned → LentLists → Type 0
-PlannedByRules launch file reply after = reply .number ≡ 0 → PlanByRules launch (tableIn file) (marksIn file after) (runsIn reply after)
+abbrev pub PlannedByRules : ℕ → ReadTable → Planned → LentLists → Type 0
+PlannedByRules launch read reply after =
+    reply .number ≡ 0 → PlanByRules launch (read .weight) (read .table) (marksIn (read .table) after) (runsIn reply after)
 
 -- an 8 names the first task where the mandatory ticks can't be met, and in a nested table the first that exceeds its window
-abbrev pub EightFirst : ℕ → List ℕ → Planned → Type 0
-EightFirst launch file reply =
+abbrev pub EightFirst : ℕ → ReadTable → Planned → Type 0
+EightFirst launch read reply =
     reply .number ≡ 8
-    → FirstUnmet launch (tableIn file) (reply .place) × (isNested (tableIn file) ≡ true → FirstExceeding launch (tableIn file) (reply .place))
+    → FirstUnmet launch (read .table) (reply .place) × (isNested (read .table) ≡ true → FirstExceeding launch (read .table) (reply .place))

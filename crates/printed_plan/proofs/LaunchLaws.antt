@@ -8,7 +8,7 @@ use native.Mathlib.Omega.{arith}
 use borrow.Author.Tests.{ne-eqb}
 use Rattle.base.specs.Limits.{maxTasks}
 use Rattle.clock.specs.Clock.{badLaunch}
-use Rattle.table.specs.Reading.{tableIn}
+use Rattle.table.specs.Reading.{oneEach, plainRead, tableIn}
 use Rattle.schedule.specs.Shifting.{laterRuns}
 use Rattle.orders.proofs.LaunchLaws.{jobs-launch-0}
 use Rattle.plans.specs.Planning.{listsFor, planMarks, planRuns, planReply}
@@ -23,7 +23,7 @@ use Rattle.printed_plan.proofs.InputLaws.{output-whole}
 -- With launch 0 every earlier text is printed: of a file,
 pub printed-launch-0 : (file : List ℕ) → printed 0 file ≡ earlierText file
 unfolding printed longReply planText earlierText earlierLong earlierPlanText earlierJobs
-printed-launch-0 file = rw (reply-launch-0 file (listsFor maxTasks), jobs-launch-0 (tableIn file))
+printed-launch-0 file = rw (reply-launch-0 (plainRead file) (listsFor maxTasks), jobs-launch-0 (tableIn file))
 
 -- and of an input of the program that begins with its 4 bytes.
 pub input-launch-0 : (file : List ℕ) → planOutput (0 ∷ 0 ∷ 0 ∷ 0 ∷ file) ≡ earlierText file
@@ -34,14 +34,14 @@ input-launch-0 file = sym (output-whole planFront planOfInput (0 ∷ 0 ∷ 0 ∷
 pub refused-launch : (launch : ℕ) (file : List ℕ) → badLaunch launch ≡ false → (longReply 0 file .number ≡ 0 → ⊥) → printed launch file ≡ printed 0 file
 unfolding printed longReply replyText
 refused-launch launch file low refused =
-    rw (reply-launch launch file (listsFor maxTasks) low, ne-eqb (planReply 0 file (listsFor maxTasks) .number) 0 refused)
+    rw (reply-launch launch (plainRead file) (listsFor maxTasks) low, ne-eqb (planReply 0 (plainRead file) (listsFor maxTasks) .number) 0 refused)
 
 -- The text of a file that is planned with launch 0, at an accepted launch tick.
 pub printed-launch : (launch : ℕ) (file : List ℕ) → badLaunch launch ≡ false → longReply 0 file .number ≡ 0
     → printed launch file
-    ≡ planLines (tableIn file .count) (planOf 0 (tableIn file) .kept) (planOf 0 (tableIn file) .discarded) (planMarks 0 (tableIn file))
-    (laterRuns launch (planRuns 0 (tableIn file)))
+    ≡ planLines (tableIn file .count) (planOf 0 oneEach (tableIn file) .kept) (planOf 0 oneEach (tableIn file) .discarded) (planMarks 0 oneEach (tableIn file))
+    (laterRuns launch (planRuns 0 oneEach (tableIn file)))
 unfolding printed longReply replyText planText planTextBy planOf planMarks planRuns
 printed-launch launch file low zero =
     let t = tableIn file in
-    rw (reply-launch launch file _ low, zero, made-launch launch t, marks-launch launch t, runs-launch launch t)
+    rw (reply-launch launch (plainRead file) _ low, zero, made-launch launch oneEach t, marks-launch launch oneEach t, runs-launch launch oneEach t)

@@ -5,13 +5,14 @@ use mathlib.Core.List.{List, [], _∷_, _++_}
 use mathlib.Core.Bool.{Bool}
 use native.Mathlib.Omega.{arith}
 use lib.ListN.{length, take, length-append}
+use Rattle.table.proofs.RoundTrip.{read-legal}
 use Rattle.base.specs.Members.{All}
 use Rattle.base.proofs.TestLaws.{cases}
 use Rattle.lines.specs.Text.{line}
 use Rattle.lines.proofs.LineLaws.{line-few}
 use Rattle.table.specs.declared.Table.{Table}
 use Rattle.table.specs.Layout.{fileBytesRead}
-use Rattle.table.specs.Reading.{tableIn}
+use Rattle.table.specs.Reading.{oneEach, plainRead, tableIn}
 use Rattle.table.proofs.FileLaws.{legal-count}
 use Rattle.schedule.specs.declared.Run.{Run}
 use Rattle.schedule.specs.declared.Found.{Found}
@@ -91,7 +92,7 @@ lines-length runs tick span =
 module _ (launch tick span : ℕ) where
   -- what is made of a table that is planned
   abbrev linesOf : Table → List ℕ
-  linesOf t = nowLines (planRuns launch t) tick span
+  linesOf t = nowLines (planRuns launch oneEach t) tick span
 
   -- No text is longer than maxText.
   pub now-length : (file : List ℕ) → length (nowText launch tick span file) ≤ maxText
@@ -100,8 +101,8 @@ module _ (launch tick span : ℕ) where
       file-text-length linesOf launch file (λ p.
       omega (
         arith,
-        lines-length (planRuns launch (tableIn file)) tick span,
-        plan-few launch (tableIn file) (p .legal) (p .none),
+        lines-length (planRuns launch oneEach (tableIn file)) tick span,
+        plan-few launch oneEach (tableIn file) (p .legal) (p .none),
         legal-count (p .legal),
       ))
 
@@ -113,7 +114,7 @@ module _ (launch tick span : ℕ) where
 
   -- What is printed of a plan, from its runs.
   pub now-planned : (file : List ℕ) (reply : Planned) → reply ≡ longReply launch file → reply .number ≡ 0
-      → (runs : List Run) → runs ≡ planRuns launch (tableIn file) → nowLines runs tick span ≡ nowText launch tick span file
+      → (runs : List Run) → runs ≡ planRuns launch oneEach (tableIn file) → nowLines runs tick span ≡ nowText launch tick span file
   unfolding nowText
   now-planned file reply e z runs r = rw r (file-text-planned linesOf launch file reply e z)
 
@@ -126,5 +127,5 @@ module _ (launch tick span : ℕ) where
 pub plan-accepted : (launch : ℕ) (file : List ℕ) → PlanAccepted launch file
 unfolding longReply
 plan-accepted launch file z =
-    let p = plan-made launch file _ z .made in
-    plan-checked launch (tableIn file) (p .legal) (p .none)
+    let p = plan-made launch (plainRead file) (read-legal file) _ z .made in
+    plan-checked launch oneEach (tableIn file) (p .legal) (p .none)

@@ -9,13 +9,14 @@ use lib.Dec.{eqb}
 use lib.ListN.{length, take, length-append}
 use lib.Seq.{take-all}
 use borrow.Author.Tests.{eqb-true, eqb-false, ne-eqb}
+use Rattle.table.proofs.RoundTrip.{read-legal}
 use Rattle.base.proofs.TestLaws.{cases}
 use Rattle.lines.specs.Text.{line}
 use Rattle.lines.proofs.LineLaws.{line-few}
 use Rattle.table.specs.declared.Table.{Table}
 use Rattle.table.specs.Layout.{maxFile, fileBytesRead}
 use Rattle.table.specs.Answers.{numberOf, placeOf, isAccepted}
-use Rattle.table.specs.Reading.{tableIn, readAnswer, readReply}
+use Rattle.table.specs.Reading.{oneEach, plainRead, tableIn, readAnswer}
 use Rattle.table.proofs.AnswerLaws.{refused-number}
 use Rattle.table.proofs.FileLaws.{legal-count}
 use Rattle.table.proofs.PrefixLaws.{long-refused, read-prefix}
@@ -54,18 +55,18 @@ unfolding refusalText
 refusal-length number place = omega (arith, line-few refusedWord (number ∷ place ∷ []))
 
 -- the text of a plan that was made
-plan-text-length : (launch : ℕ) (file : List ℕ) → Plannable launch file → length (planText launch (tableIn file)) ≤ maxText
+plan-text-length : (launch : ℕ) (file : List ℕ) → Plannable launch (plainRead file) → length (planText launch (tableIn file)) ≤ maxText
 unfolding planText planTextBy planOf planMarks planRuns dropLines
 plan-text-length launch file p =
     let t = tableIn file in
     omega (
       arith,
-      plan-length (t .count) (planOf launch t .kept) (planOf launch t .discarded) (planMarks launch t) (planRuns launch t),
-      line-few planWord (t .count ∷ planOf launch t .kept ∷ planOf launch t .discarded ∷ []),
-      drops-length 0 (planMarks launch t),
-      runs-length (planRuns launch t),
-      marks-length launch t (p .legal) (p .none),
-      plan-few launch t (p .legal) (p .none),
+      plan-length (t .count) (planOf launch oneEach t .kept) (planOf launch oneEach t .discarded) (planMarks launch oneEach t) (planRuns launch oneEach t),
+      line-few planWord (t .count ∷ planOf launch oneEach t .kept ∷ planOf launch oneEach t .discarded ∷ []),
+      drops-length 0 (planMarks launch oneEach t),
+      runs-length (planRuns launch oneEach t),
+      marks-length launch oneEach t (p .legal) (p .none),
+      plan-few launch oneEach t (p .legal) (p .none),
       legal-count (p .legal),
     )
 
@@ -75,12 +76,12 @@ fileText of launch file = replyText (longReply launch file) (of (tableIn file))
 
 module _ (of : Table → List ℕ) (launch : ℕ) where
   -- It is no longer than maxText where that of a plan is not.
-  pub file-text-length : (file : List ℕ) → (Plannable launch file → length (of (tableIn file)) ≤ maxText) → length (fileText of launch file) ≤ maxText
+  pub file-text-length : (file : List ℕ) → (Plannable launch (plainRead file) → length (of (tableIn file)) ≤ maxText) → length (fileText of launch file) ≤ maxText
   unfolding longReply replyText
   file-text-length file few =
       let reply = longReply launch file in
       cases (eqb (reply .number) 0)
-      (λ e. rw e (few (plan-made launch file _ (eqb-true (reply .number) 0 e) .made)))
+      (λ e. rw e (few (plan-made launch (plainRead file) (read-legal file) _ (eqb-true (reply .number) 0 e) .made)))
       (λ e. rw e (refusal-length (reply .number) (reply .place)))
 
   -- What it is where a plan was made, and of a refusal.
@@ -99,7 +100,7 @@ module _ (of : Table → List ℕ) (launch : ℕ) where
       → refusalText (numberOf (readAnswer file)) (placeOf (readAnswer file)) ≡ fileText of launch file
   unfolding longReply
   file-text-unread file e =
-      file-text-refused file (planDeclined (numberOf (readAnswer file)) (placeOf (readAnswer file))) (sym (file-refused launch file _ e))
+      file-text-refused file (planDeclined (numberOf (readAnswer file)) (placeOf (readAnswer file))) (sym (file-refused launch (plainRead file) _ e))
       (eqb-false (numberOf (readAnswer file)) 0 (refused-number (readAnswer file) e))
 
   -- It follows from the file's first bytes, as many as are read of a file: 501.
@@ -127,11 +128,11 @@ printed-refused launch = file-text-refused (planText launch) launch
 
 -- What is printed of a plan, from its task count, its marks and its runs.
 pub printed-planned : (launch : ℕ) (file : List ℕ) (reply : Planned) → reply ≡ longReply launch file → reply .number ≡ 0
-    → (count : ℕ) (marks : List ℕ) (runs : List Run) → count ≡ tableIn file .count → marks ≡ planMarks launch (tableIn file)
-    → runs ≡ planRuns launch (tableIn file) → planLines count (reply .kept) (reply .discarded) marks runs ≡ printed launch file
+    → (count : ℕ) (marks : List ℕ) (runs : List Run) → count ≡ tableIn file .count → marks ≡ planMarks launch oneEach (tableIn file)
+    → runs ≡ planRuns launch oneEach (tableIn file) → planLines count (reply .kept) (reply .discarded) marks runs ≡ printed launch file
 unfolding printed longReply planText planTextBy planOf planMarks planRuns
 printed-planned launch file reply e z count marks runs c m r =
-    let made : reply ≡ planOf launch (tableIn file) = e ∙ plan-made launch file _ (rw e at z) .reply-is in
+    let made : reply ≡ planOf launch oneEach (tableIn file) = e ∙ plan-made launch (plainRead file) (read-legal file) _ (rw e at z) .reply-is in
     rw (c, m, r, made) (file-text-planned (planText launch) launch file reply e z)
 
 -- What is printed of a file follows from its first bytes, as many as are read of a file: 501.

@@ -4,7 +4,7 @@ use mathlib.Core.List.{List}
 use Rattle.base.specs.Limits.{maxTasks}
 use Rattle.table.specs.declared.Table.{Table}
 use Rattle.table.specs.Kinds.{isNested}
-use Rattle.table.specs.Reading.{tableIn}
+use Rattle.table.specs.Reading.{plainRead, tableIn}
 use Rattle.plans.specs.declared.Planned.{Planned}
 use Rattle.plans.specs.Planning.{listsFor}
 use Rattle.plans.specs.Launch.{earlierJobs, earlierReply}
@@ -16,7 +16,7 @@ earlierPlanText t = planTextBy (isNested t) (t .count) (earlierJobs t)
 
 -- the reply of planning into lists that are long enough for every table
 unfoldable pub earlierLong : List ℕ → Planned
-earlierLong file = earlierReply file (listsFor maxTasks)
+earlierLong file = earlierReply (plainRead file) (listsFor maxTasks)
 
 -- the text printed of a file: its plan or its refusal
 unfoldable pub earlierText : List ℕ → List ℕ

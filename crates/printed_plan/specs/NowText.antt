@@ -4,7 +4,7 @@ use mathlib.Core.List.{List, [], _∷_, _++_}
 use mathlib.Core.Path.{_≡_}
 use Rattle.base.specs.Tests.{pick}
 use Rattle.lines.specs.Text.{space, line}
-use Rattle.table.specs.Reading.{tableIn}
+use Rattle.table.specs.Reading.{oneEach, tableIn}
 use Rattle.schedule.specs.declared.Run.{Run}
 use Rattle.schedule.specs.declared.Found.{Found}
 use Rattle.schedule.specs.declared.RunsAnswer.the-variants as checked
@@ -36,8 +36,8 @@ nowLines runs tick span =
 
 -- the text printed of a file at a launch tick, for a tick and the ticks from it on: that of its plan's runs, or its refusal
 unfoldable pub nowText : ℕ → ℕ → ℕ → List ℕ → List ℕ
-nowText launch tick span file = replyText (longReply launch file) (nowLines (planRuns launch (tableIn file)) tick span)
+nowText launch tick span file = replyText (longReply launch file) (nowLines (planRuns launch oneEach (tableIn file)) tick span)
 
 -- where planning does not refuse the file, the check accepts the runs of its plan: so no query of them is refused, and NONE never stands for a refusal
 abbrev pub PlanAccepted : ℕ → List ℕ → Type 0
-PlanAccepted launch file = longReply launch file .number ≡ 0 → checkAnswer (planRuns launch (tableIn file)) ≡ checked.Accepted
+PlanAccepted launch file = longReply launch file .number ≡ 0 → checkAnswer (planRuns launch oneEach (tableIn file)) ≡ checked.Accepted

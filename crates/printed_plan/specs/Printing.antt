@@ -11,7 +11,7 @@ use Rattle.base.specs.Lent.{writtenFront}
 use Rattle.lines.specs.Text.{line, maxField}
 use Rattle.table.specs.declared.Table.{Table}
 use Rattle.table.specs.Kinds.{isNested}
-use Rattle.table.specs.Reading.{tableIn}
+use Rattle.table.specs.Reading.{oneEach, plainRead, tableIn}
 use Rattle.schedule.specs.declared.Job.{Job}
 use Rattle.schedule.specs.declared.Run.{Run}
 use Rattle.orders.specs.KindOrder.{jobsLastFirst}
@@ -67,7 +67,8 @@ replyText reply plan = pick (eqb (reply .number) 0) plan (refusalText (reply .nu
 
 -- the text of the plan of n jobs, of a nested table or of a similar one
 unfoldable pub planTextBy : Bool → ℕ → List Job → List ℕ
-planTextBy nested n jobs = planLines n (madeBy nested jobs .kept) (madeBy nested jobs .discarded) (marksBy nested n jobs) (planRunsBy nested jobs)
+planTextBy nested n jobs =
+    planLines n (madeBy nested oneEach jobs .kept) (madeBy nested oneEach jobs .discarded) (marksBy nested oneEach n jobs) (planRunsBy nested oneEach jobs)
 
 -- the text of a table's plan at a launch tick
 unfoldable pub planText : ℕ → Table → List ℕ
@@ -75,7 +76,7 @@ planText launch t = planTextBy (isNested t) (t .count) (jobsLastFirst launch t)
 
 -- the reply of planning a file at a launch tick, into lists that are long enough for every table
 unfoldable pub longReply : ℕ → List ℕ → Planned
-longReply launch file = planReply launch file (listsFor maxTasks)
+longReply launch file = planReply launch (plainRead file) (listsFor maxTasks)
 
 -- the text printed of a file at a launch tick: its plan or its refusal
 unfoldable pub printed : ℕ → List ℕ → List ℕ

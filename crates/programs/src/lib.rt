@@ -1,5 +1,6 @@
-// The programs, each as one function over file descriptors. How many bytes `plan`, `now` and `table_to_text` read of their input comes with the type of the
-// function that is called: they can't choose it. `table_from_text` reads a text into a buffer, and refuses one that fills it.
+// The programs, each as one function over file descriptors. How many bytes `plan`, `now`, `table_to_text` and `weighted_to_text` read of their input comes with
+// the type of the function that is called: they can't choose it. `table_from_text` and `weighted_from_text` read a text into a buffer, and refuse one that fills
+// it.
 use console::NOW_INPUT_BYTES;
 use report::INPUT_BYTES;
 use report::MAX_TEXT;
@@ -8,7 +9,9 @@ mod from_text;
 mod to_text;
 
 pub use from_text::table_from_text;
+pub use from_text::weighted_from_text;
 pub use to_text::table_to_text;
+pub use to_text::weighted_to_text;
 
 // Plans the table file of an input at the launch tick before it, and prints its plan or its refusal.
 pub fn plan(input: i32, output: i32) {

@@ -1,6 +1,6 @@
-// Runs the programs on files, and prints what each writes. The cases are the lines of the file `stdin`: `plan`, `now`, `to_text` or `from_text`,
-// a colon, a space and the name of a file. Behind the line of `plan` and `now` comes what is written to standard output. The other two write to
-// standard error too. They are run twice, each time with one of the two streams closed: behind the line `errors` comes what is written to standard error,
+// Runs the programs on files, and prints what each writes. The cases are the lines of the file `stdin`: `plan`, `now`, `to_text`, `from_text`,
+// `show_weighted` or `make_weighted`, a colon, a space and the name of a file. Behind the line of `plan` and `now` comes what is written to standard output. The
+// others write to standard error too. They are run twice, each time with one of the two streams closed: behind the line `errors` comes what is written to standard error,
 // and behind the line `output` what is written to standard output.
 use libc::STDIN_FILENO;
 use libc::STDOUT_FILENO;
@@ -8,13 +8,16 @@ use libc::STDOUT_FILENO;
 // A descriptor that is not open: what is written there is lost.
 const CLOSED: i32 = -1;
 
-// Runs a program on an open file: `plan`, `now`, table_to_text or table_from_text, by the first byte of its case. `plan` and `now` have no stream of errors.
+// Runs a program on an open file: `plan`, `now`, table_to_text, table_from_text, weighted_to_text or weighted_from_text, by the first byte of its case. `plan`
+// and `now` have no stream of errors.
 fn run(start: u8, input: i32, output: i32, errors: i32) {
     match start {
         b'p' => programs::plan(input, output),
         b'n' => programs::now(input, output),
         b't' => programs::table_to_text(input, output, errors),
         b'f' => programs::table_from_text(input, output, errors),
+        b's' => programs::weighted_to_text(input, output, errors),
+        b'm' => programs::weighted_from_text(input, output, errors),
         _ => cases::text(b"no such program\n"),
     }
 }

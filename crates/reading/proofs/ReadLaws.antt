@@ -18,16 +18,16 @@ use Rattle.table.specs.declared.Reading.{Reading}
 use Rattle.table.specs.declared.Answer.the-variants.{Accepted}
 use Rattle.table.specs.Tables.{noTask, noTable, taskAt, tableOf}
 use Rattle.table.specs.Answers.{isAccepted}
-use Rattle.table.specs.Layout.{headerWidth, taskStart}
+use Rattle.table.specs.Layout.{headerWidth, taskWidth, rowStart, taskStart}
 use Rattle.table.specs.Kinds.{windowsAnswer, tableWindowsAnswer}
 use Rattle.table.specs.WindowColumns.{FramesOf}
 use Rattle.reading.specs.Frames.{FramesIn, windowIn}
 use Rattle.table.proofs.AnswerLaws.{firstRefusal-known}
-use Rattle.table.proofs.RowFiles.{count-known}
-use Rattle.table.proofs.RoundTrip.{head-known, tableIn-count}
+use Rattle.table.proofs.RowFiles.{count-known, front-known}
+use Rattle.table.proofs.RoundTrip.{tableIn-count}
 use Rattle.table.proofs.TableLaws.{taskAt-below}
 use Rattle.table.proofs.WindowLaws.{answer-columns}
-use Rattle.table.specs.Reading.{countIn, pIn, qIn, taskIn, tableIn, headAnswer, readAnswer, readReply}
+use Rattle.table.specs.Reading.{countIn, pIn, qIn, taskIn, tableIn, frontAnswer, headAnswer, readAnswer, readReply}
 
 -- the header's numbers and the tasks that were taken make the table of the file
 pub table-taken : (s : List ℕ) (count : ℕ) (t : Table) → count ≡ countIn s → t .count ≡ count → t .p ≡ pIn s → t .q ≡ qIn s
@@ -70,17 +70,25 @@ windows-taken s count frames few c held =
     ap (windowsAnswer (windowIn frames)) (c ∙ sym (tableIn-count s))
     ∙ answer-columns (tableIn s) (take maxTasks frames) (drop maxTasks frames) (columns-taken s frames few held)
 
--- a header that is accepted has a count in range, and the file the bits of its tasks
-pub head-few : (s : List ℕ) → headAnswer s ≡ Accepted → (countIn s ≤ maxTasks) × (taskStart (countIn s) ≤ 8 * length s)
-unfolding taskStart bytesFor
-head-few s e =
-    let facts = head-known s e in
+-- where nothing is refused that needs no row, the count is in range, and the file has the bits of its rows
+pub front-few : (width : ℕ) (s : List ℕ) → frontAnswer width s ≡ Accepted → (countIn s ≤ maxTasks) × (rowStart width (countIn s) ≤ 8 * length s)
+unfolding bytesFor
+front-few width s e =
+    let facts = front-known width s e in
     (count-known (countIn s) (facts .counted) .1, omega arith)
 
 -- so it has the bits of a header
+pub front-bits : (width : ℕ) (s : List ℕ) → frontAnswer width s ≡ Accepted → headerWidth ≤ 8 * length s
+front-bits width s e = omega (arith, front-few width s e .1)
+
+-- the same of rows that are tasks
+pub head-few : (s : List ℕ) → headAnswer s ≡ Accepted → (countIn s ≤ maxTasks) × (taskStart (countIn s) ≤ 8 * length s)
+unfolding headAnswer taskStart
+head-few s e = front-few taskWidth s e
+
 pub head-bits : (s : List ℕ) → headAnswer s ≡ Accepted → headerWidth ≤ 8 * length s
-unfolding taskStart
-head-bits s e = omega (arith, head-few s e .1)
+unfolding headAnswer
+head-bits s e = front-bits taskWidth s e
 
 -- a header that is refused gives the answer
 pub head-refused : (s : List ℕ) → isAccepted (headAnswer s) ≡ false → headAnswer s ≡ readAnswer s

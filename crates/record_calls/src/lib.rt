@@ -4,6 +4,7 @@ ghost use mathlib.Core.Path.{_≡_};
 ghost use Prim.Native.Nat.{_≤_};
 ghost use lib.ListN.{take};
 ghost use Rattle.records.specs.RecordColumns.{maxCopied, LegalColumns, copiedRuns};
+ghost use Rattle.table.specs.Reading.{plainRead};
 ghost use Rattle.schedule.specs.Judging.{judgeReply};
 ghost use Rattle.record_calls.specs.Answers.{gatheredOf, answersOf};
 use records::MAX_COPIED;
@@ -80,7 +81,7 @@ pub fn judge_rows(
     count: usize,
 ) -> Judged
     requires { ⌜ count ≤ maxCopied ⌝ }
-    ensures { λ r. ⌜ r ≡ judgeReply launch (now (file .entry)) (now (marks .entry)) (take count rows) ⌝ }
+    ensures { λ r. ⌜ r ≡ judgeReply launch (plainRead (now (file .entry))) (now (marks .entry)) (take count rows) ⌝ }
 {
     judging::judge(file, launch, marks, records::stretch(&rows, 0, count))
 }

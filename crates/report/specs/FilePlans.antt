@@ -2,10 +2,10 @@
 use Prim.Native.Nat.{ℕ}
 use mathlib.Core.List.{List}
 use Rattle.base.specs.Limits.{maxTasks}
-use Rattle.table.specs.Reading.{tableIn, readReply}
+use Rattle.table.specs.Reading.{plainRead, readReply}
 use Rattle.schedule.specs.declared.Run.{Run}
 use Rattle.plans.specs.declared.Planned.{Planned}
-use Rattle.plans.specs.Planning.{LentLists, lent, listsFor, listsAfter}
+use Rattle.plans.specs.Planning.{LentLists, lent, listsFor, listsLeft}
 use Rattle.plans.specs.Demands.{runsIn}
 use Rattle.printed_plan.specs.Printing.{longReply}
 use Rattle.report.specs.declared.FilePlan.{FilePlan}
@@ -19,7 +19,7 @@ leftBy reply count lists =
 -- planning leaves them, which held 0 throughout
 unfoldable pub filePlan : ℕ → List ℕ → FilePlan
 filePlan launch file =
-    leftBy (longReply launch file) (readReply file .table .count) (listsAfter launch (tableIn file) (longReply launch file) (listsFor maxTasks))
+    leftBy (longReply launch file) (readReply file .table .count) (listsLeft launch (plainRead file) (longReply launch file) (listsFor maxTasks))
 
 -- its lists: the marks, and the columns of the runs
 abbrev pub listsInPlan : FilePlan → LentLists

@@ -29,7 +29,7 @@ use Rattle.table.specs.TableSamples.{p8File}
 use Rattle.schedule.specs.Jobs.{jobOf, jobAt}
 use Rattle.schedule.specs.Ticks.{sumBelow}
 use Rattle.schedule.specs.Runs.{tooMany, runAtIndex, runsOf}
-use Rattle.schedule.specs.Judging.{followFrom, eachFollows, verdictByJobs, verdict, countMarked, firstBadMark, judgeByVerdict, judgeTable, judgeReply}
+use Rattle.schedule.specs.Judging.{followFrom, eachFollows, verdictByJobs, verdict, markedWeight, firstBadMark, judgeByVerdict, judgeTable, judgeReply}
 use Rattle.schedule.specs.BusyCount.{shared, busyReply}
 use Rattle.schedule.specs.RunCheck.{outOfOrder, firstOutOfOrder, checkAnswer}
 use Rattle.schedule.specs.Queries.{firstRun, runsThat, touching, stretchOf, foundFirst}
@@ -84,5 +84,5 @@ use Rattle.samples.specs.SampleTests.{numbersEqual, runsEqual, tasksEqua
 
 -- every sample flight and every call whose test is computed passes, and P8 is planned into lists that are long enough for every table
 pub all-pass : (everyMember sampleMet computedSamples ≡ true) × (everyMember callMet computedRows ≡ true) × (longReply 0 p8File .number ≡ 0)
-unfolding everyMember sampleMet planMet kindMet fileMet callMet listsEqual tablesEqual tasksEqual runsEqual numbersEqual textOf ascii outputOf numberIn nowText nowLines foundLine printedWithin printed longReply planText planTextBy replyText refusalText planLines runLines runLine dropLines dropsFrom line fields decimal decimalWithin listsAfter afterBy writtenBy planReply planTable replyBy madeBy planRunsBy planRuns marksBy planMarks numberAt tooShort runsBy chosenBy unmetBy exceedingAfter jobsLastFirst orderLastFirst beforeBy kindBefore similarBefore nestBefore lastFirst insertLater chosenInOrderOver choiceKeyInOrder firstLate placedInOrder fitsInOrder finish inTime endsAt worksPlaced latestFirst chosenOver bestList best better choiceKey keptWorth discardedWorth lexLess keepLists worksFit worksOf sumBelow stretchOf touching runsThat firstRun checkAnswer firstOutOfOrder outOfOrder busyReply shared judgeReply judgeTable firstBadMark verdict eachFollows followFrom runsOf runAtIndex tooMany jobAt jobOf movedOver moveReply firstOutside movedOutside movedTable movedTask writtenOver writeReply rowsReply firstTooWide tooWide fileOf rowsFile headBits readAnswer headAnswer frontAnswer paddingSet tableIn taskIn taskFrom qIn pIn countIn nestingAnswer tableWindowsAnswer windowsAnswer kindAnswer ofNeitherKind isNested pairwise failsEarlier similar noLater nested contains badWindow badCount fileLength taskStart noTable tableOf taskAt releaseTick deadlineTick releaseOffset deadlineOffset rowsBits rowBits pack bytesFrom bytesFor bitIn bitsOf field number bitAt placesFrom places someBelow lowest lowestFrom contentAfter foundFirst judgeByVerdict countMarked verdictByJobs everyBelow badWindowAnswer readReply
+unfolding everyMember sampleMet planMet kindMet fileMet callMet listsEqual tablesEqual tasksEqual runsEqual numbersEqual textOf ascii outputOf numberIn nowText nowLines foundLine printedWithin printed longReply planText planTextBy replyText refusalText planLines runLines runLine dropLines dropsFrom line fields decimal decimalWithin listsAfter afterBy writtenBy planReply planTable replyBy madeBy planRunsBy planRuns marksBy planMarks numberAt tooShort runsBy chosenBy unmetBy exceedingAfter jobsLastFirst orderLastFirst beforeBy kindBefore similarBefore nestBefore lastFirst insertLater chosenInOrderOver choiceKeyInOrder firstLate placedInOrder fitsInOrder finish inTime endsAt worksPlaced latestFirst chosenOver bestList best better choiceKey keptWorth discardedWorth lexLess keepLists worksFit worksOf sumBelow stretchOf touching runsThat firstRun checkAnswer firstOutOfOrder outOfOrder busyReply shared judgeReply judgeTable firstBadMark verdict eachFollows followFrom runsOf runAtIndex tooMany jobAt jobOf movedOver moveReply firstOutside movedOutside movedTable movedTask writtenOver writeReply rowsReply firstTooWide tooWide fileOf rowsFile headBits readAnswer headAnswer frontAnswer paddingSet tableIn taskIn taskFrom qIn pIn countIn nestingAnswer tableWindowsAnswer windowsAnswer kindAnswer ofNeitherKind isNested pairwise failsEarlier similar noLater nested contains badWindow badCount fileLength taskStart noTable tableOf taskAt releaseTick deadlineTick releaseOffset deadlineOffset rowsBits rowBits pack bytesFrom bytesFor bitIn bitsOf field number bitAt placesFrom places someBelow lowest lowestFrom contentAfter foundFirst judgeByVerdict markedWeight verdictByJobs everyBelow badWindowAnswer readReply
 all-pass = (refl, refl, refl)

@@ -3,3 +3,5 @@ pub mod Computed
 pub mod LaunchSamples
 pub mod SampleLaws
 pub mod RefusalLaws
+pub mod WeightedComputed
+pub mod WeightedLaws

@@ -18,7 +18,7 @@ use Rattle.table.specs.declared.Answer.the-variants.{Accepted}
 use Rattle.table.specs.declared.Reading.{Reading}
 use Rattle.table.specs.Tables.{tableOf}
 use Rattle.table.specs.Answers.{numberOf, placeOf}
-use Rattle.table.specs.Reading.{tableIn, readReply}
+use Rattle.table.specs.Reading.{plainRead, readReply}
 use Rattle.table.specs.Writing.{fileOf, writeReply}
 use Rattle.table.proofs.TableLaws.{tableOf-canonical}
 use Rattle.table.proofs.FileLaws.{accepted-legal}
@@ -31,7 +31,7 @@ use Rattle.schedule.specs.RunCheck.{checkAnswer, runsNumber, runsPlace}
 use Rattle.schedule.specs.BusyCount.{shared, busySum, busyReply}
 use Rattle.schedule.specs.Queries.{touching, stretchOf}
 use Rattle.schedule.proofs.CheckLaws.{ordered-accepted}
-use Rattle.plans.specs.Planning.{listsFor, planReply, listsAfter}
+use Rattle.plans.specs.Planning.{listsFor, planReply, listsLeft}
 use Rattle.printed_plan.specs.Printing.{printedWithin}
 use Rattle.samples.specs.Refusals.{
   Call,
@@ -76,7 +76,7 @@ call-says (writesOver t out after) e = numbers-same _ _ e
 call-says (moves file shift room reply) e = written-same _ _ e
 call-says (movesOver file shift out after) e = numbers-same _ _ e
 call-says (plans file launch lists reply after) e =
-    both (numbersEqual (planParts (planReply launch file lists)) (planParts reply)) (listsEqual (listsAfter launch (tableIn file) reply lists) after)
+    both (numbersEqual (planParts (planReply launch (plainRead file) lists)) (planParts reply)) (listsEqual (listsLeft launch (plainRead file) reply lists) after)
     (planned-same _ _) (lists-same _ _) e
 call-says (judges file launch marks runs reply) e = judged-same _ _ e
 call-says (busyCounts runs a b reply) e = busy-same _ _ e

@@ -13,11 +13,11 @@ use Rattle.base.proofs.MemberLaws.{all-append}
 use Rattle.clock.specs.Clock.{releaseTick, deadlineTick}
 use Rattle.table.specs.declared.Table.{Table}
 use Rattle.table.specs.declared.Answer.{Answer}
-use Rattle.table.specs.declared.Answer.the-variants.{Accepted, Short, Count, Long, Padding, Period, Window, Kind}
+use Rattle.table.specs.declared.Answer.the-variants.{Accepted, Short, Count, Long, Padding, Period, Window, Kind, Weight}
 use Rattle.table.specs.Tables.{tableOf, taskAt}
 use Rattle.table.specs.Answers.{numberOf, placeOf}
 use Rattle.table.specs.Kinds.{nestingAnswer}
-use Rattle.table.specs.Reading.{tableIn}
+use Rattle.table.specs.Reading.{oneEach, plainRead, tableIn}
 use Rattle.table.specs.Writing.{fileOf}
 use Rattle.table.specs.Moving.{moveReply}
 use Rattle.table.specs.TableSamples.{p8Table, p8File}
@@ -74,10 +74,10 @@ plan-holds number marks expected runs due e z =
 plan-says : (s : PlanSample) → planMet s ≡ true → PlanSays s
 unfolding planMet
 plan-says s e =
-    let reply = planReply (s .launch) (s .file) (listsFor (s .table .count)) in
+    let reply = planReply (s .launch) (plainRead (s .file)) (listsFor (s .table .count)) in
     let replied = numbersEqual (planParts reply) (planParts (s .reply)) in
     three (fileMet (s .file) (s .table)) replied (madeMet s) (file-holds (s .file) (s .table)) (planned-same reply (s .reply))
-    (plan-holds (s .reply .number) (planMarks (s .launch) (s .table)) (s .marks) (planRuns (s .launch) (s .table)) (s .runs))
+    (plan-holds (s .reply .number) (planMarks (s .launch) oneEach (s .table)) (s .marks) (planRuns (s .launch) oneEach (s .table)) (s .runs))
     e
 
 -- an answer of number 7 names a place and nothing else
@@ -90,6 +90,7 @@ seven-place Padding e = absurd (omega arith)
 seven-place Period e = absurd (omega arith)
 seven-place (Window position) e = absurd (omega arith)
 seven-place (Kind position) e = refl
+seven-place (Weight position) e = absurd (omega arith)
 
 -- what the test of a 7 says
 kind-holds : (answer : Answer) (place : ℕ) → kindMet answer place ≡ true → answer ≡ Kind place

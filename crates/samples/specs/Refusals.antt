@@ -12,7 +12,7 @@ use Rattle.table.specs.declared.Table.{Table}
 use Rattle.table.specs.declared.Written.{Written}
 use Rattle.table.specs.Answers.{numberOf, placeOf}
 use Rattle.table.specs.Layout.{maxFile, fileBytesRead}
-use Rattle.table.specs.Reading.{tableIn, readReply}
+use Rattle.table.specs.Reading.{plainRead, readReply}
 use Rattle.table.specs.Writing.{fileOf, writeReply, writtenOver}
 use Rattle.table.specs.Moving.{moveReply, movedOver}
 use Rattle.table.specs.TableSamples.{task, table, p4File, p8File}
@@ -26,7 +26,7 @@ use Rattle.schedule.specs.BusyCount.{busyReply}
 use Rattle.schedule.specs.RunCheck.{checkAnswer, runsNumber, runsPlace}
 use Rattle.schedule.specs.Queries.{runAtTick, runFromTick, foundNumber, foundPlace, isFound, runFound, touching, stretchOf}
 use Rattle.plans.specs.declared.Planned.{Planned}
-use Rattle.plans.specs.Planning.{LentLists, listsFor, planReply, listsAfter}
+use Rattle.plans.specs.Planning.{LentLists, listsFor, planReply, listsLeft}
 use Rattle.printed_plan.specs.Printing.{maxLine, maxText, PrintsWithin}
 use Rattle.printed_plan.specs.ProgramInput.{inputBytes, planFront, planOutput, nowFront, nowOutput}
 use Rattle.samples.specs.Inputs.{
@@ -96,8 +96,8 @@ CallSays (writes t room reply) = writeReply t room ≡ reply
 CallSays (writesOver t out after) = writtenOver t out ≡ after
 CallSays (moves file shift room reply) = moveReply file shift room ≡ reply
 CallSays (movesOver file shift out after) = movedOver file shift out ≡ after
-CallSays (plans file launch lists reply after) = (planReply launch file lists ≡ reply) × (listsAfter launch (tableIn file) reply lists ≡ after)
-CallSays (judges file launch marks runs reply) = judgeReply launch file marks runs ≡ reply
+CallSays (plans file launch lists reply after) = (planReply launch (plainRead file) lists ≡ reply) × (listsLeft launch (plainRead file) reply lists ≡ after)
+CallSays (judges file launch marks runs reply) = judgeReply launch (plainRead file) marks runs ≡ reply
 CallSays (busyCounts runs a b reply) = busyReply runs a b ≡ reply
 CallSays (checks runs number place) = (runsNumber (checkAnswer runs) ≡ number) × (runsPlace (checkAnswer runs) ≡ place)
 CallSays (asksAt runs tick numbers) = foundParts (runAtTick runs tick) ≡ numbers

@@ -14,7 +14,7 @@ use Rattle.table.specs.declared.Answer.{Answer}
 use Rattle.table.specs.Tables.{taskAt, taskRow}
 use Rattle.table.specs.Answers.{numberOf, placeOf}
 use Rattle.table.specs.Kinds.{nestingAnswer}
-use Rattle.table.specs.Reading.{tableIn, readReply}
+use Rattle.table.specs.Reading.{oneEach, plainRead, tableIn, readReply}
 use Rattle.table.specs.Writing.{fileOf, writeReply, writtenOver}
 use Rattle.table.specs.Moving.{moveReply, movedOver}
 use Rattle.schedule.specs.declared.Run.{Run}
@@ -28,7 +28,7 @@ use Rattle.schedule.specs.BusyCount.{busyReply}
 use Rattle.schedule.specs.RunCheck.{checkAnswer, runsNumber, runsPlace}
 use Rattle.schedule.specs.Queries.{runAtTick, runFromTick, touching, stretchOf}
 use Rattle.plans.specs.declared.Planned.{Planned}
-use Rattle.plans.specs.Planning.{LentLists, listsFor, planReply, planMarks, planRuns, listsAfter}
+use Rattle.plans.specs.Planning.{LentLists, listsFor, planReply, planMarks, planRuns, listsLeft}
 use Rattle.printed_plan.specs.Printing.{printedWithin}
 use Rattle.printed_plan.specs.ProgramInput.{planOutput, nowOutput}
 use Rattle.samples.specs.Samples.{Sample, PlanSample, clock, plan, window, move, text, nesting}
@@ -104,14 +104,14 @@ fileMet file t = and (tablesEqual (tableIn file) t) (numbersEqual (fileOf t) fil
 abbrev pub madeMet : PlanSample → Bool
 madeMet s =
     pick (eqb (s .reply .number) 0)
-    (and (numbersEqual (planMarks (s .launch) (s .table)) (s .marks)) (runsEqual (planRuns (s .launch) (s .table)) (s .runs)))
+    (and (numbersEqual (planMarks (s .launch) oneEach (s .table)) (s .marks)) (runsEqual (planRuns (s .launch) oneEach (s .table)) (s .runs)))
     true
 
 -- the file, the reply of planning, and the plan
 unfoldable pub planMet : PlanSample → Bool
 planMet s =
     and (fileMet (s .file) (s .table))
-    (and (numbersEqual (planParts (planReply (s .launch) (s .file) (listsFor (s .table .count)))) (planParts (s .reply))) (madeMet s))
+    (and (numbersEqual (planParts (planReply (s .launch) (plainRead (s .file)) (listsFor (s .table .count)))) (planParts (s .reply))) (madeMet s))
 
 -- an answer is 7 with this place
 unfoldable pub kindMet : Answer → ℕ → Bool
@@ -138,8 +138,8 @@ callMet (writesOver t out after) = numbersEqual (writtenOver t out) after
 callMet (moves file shift room reply) = numbersEqual (writtenParts (moveReply file shift room)) (writtenParts reply)
 callMet (movesOver file shift out after) = numbersEqual (movedOver file shift out) after
 callMet (plans file launch lists reply after) =
-    and (numbersEqual (planParts (planReply launch file lists)) (planParts reply)) (listsEqual (listsAfter launch (tableIn file) reply lists) after)
-callMet (judges file launch marks runs reply) = numbersEqual (judgedParts (judgeReply launch file marks runs)) (judgedParts reply)
+    and (numbersEqual (planParts (planReply launch (plainRead file) lists)) (planParts reply)) (listsEqual (listsLeft launch (plainRead file) reply lists) after)
+callMet (judges file launch marks runs reply) = numbersEqual (judgedParts (judgeReply launch (plainRead file) marks runs)) (judgedParts reply)
 callMet (busyCounts runs a b reply) = numbersEqual (busyParts (busyReply runs a b)) (busyParts reply)
 callMet (checks runs number place) = and (eqb (runsNumber (checkAnswer runs)) number) (eqb (runsPlace (checkAnswer runs)) place)
 callMet (asksAt runs tick numbers) = numbersEqual (foundParts (runAtTick runs tick)) numbers

@@ -15,7 +15,7 @@ use Rattle.table.specs.declared.Written.{Written}
 use Rattle.table.specs.declared.Answer.the-variants.{Kind}
 use Rattle.table.specs.Tables.{taskAt}
 use Rattle.table.specs.Kinds.{nestingAnswer}
-use Rattle.table.specs.Reading.{tableIn}
+use Rattle.table.specs.Reading.{oneEach, plainRead, tableIn}
 use Rattle.table.specs.Writing.{fileOf}
 use Rattle.table.specs.Moving.{moveReply}
 use Rattle.table.specs.TableSamples.{task, table, p4Table, p4File, p8Table, p8File}
@@ -349,8 +349,8 @@ FileHolds file t = (tableIn file ≡ t) × (fileOf t ≡ file)
 abbrev pub PlanSays : PlanSample → Type 0
 PlanSays s =
     FileHolds (s .file) (s .table)
-    × (planReply (s .launch) (s .file) (listsFor (s .table .count)) ≡ s .reply)
-    × (s .reply .number ≡ 0 → (planMarks (s .launch) (s .table) ≡ s .marks) × (planRuns (s .launch) (s .table) ≡ s .runs))
+    × (planReply (s .launch) (plainRead (s .file)) (listsFor (s .table .count)) ≡ s .reply)
+    × (s .reply .number ≡ 0 → (planMarks (s .launch) oneEach (s .table) ≡ s .marks) × (planRuns (s .launch) oneEach (s .table) ≡ s .runs))
 
 abbrev pub Says : Sample → Type 0
 Says (clock s) = ClockSays s

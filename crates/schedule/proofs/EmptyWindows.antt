@@ -12,7 +12,7 @@ use Rattle.base.proofs.MemberLaws.{all-around, any-around}
 use Rattle.schedule.specs.declared.Job.{Job}
 use Rattle.schedule.specs.Jobs.{windowTicks, counts}
 use Rattle.schedule.specs.Ticks.{Owner, isTask, oneIf}
-use Rattle.schedule.specs.Runnings.{WindowHolds, got, Whole, Gets, Running, discards}
+use Rattle.schedule.specs.Runnings.{WindowHolds, got, Whole, Gets, Running, discardedWeight, discards}
 use Rattle.schedule.proofs.TickLaws.{count-grows}
 
 -- a job with an empty window gets no tick
@@ -49,7 +49,7 @@ empty-running owner before after job e = (
 -- Such a running discards what it discards of the others, and the part of that one, where it has ticks.
 pub empty-discards : (owner : Owner) (before after : List Job) (job : Job) → windowTicks job ≡ 0 → job .mandatory ≡ 0
     → discards (before ++ job ∷ after) owner ≡ oneIf (counts job) + discards (before ++ after) owner
-unfolding discards
+unfolding discardedWeight
 empty-discards owner [] after job e z = rw (empty-got owner job e, z) (counted (counts job))
   where
     counted : (b : Bool) → oneIf (and b true) + discards after owner ≡ oneIf b + discards after owner

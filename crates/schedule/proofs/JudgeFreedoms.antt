@@ -14,13 +14,13 @@ use Rattle.base.proofs.LowestLaws as lowest-laws
 use Rattle.base.specs.Members.{everyMember}
 use Rattle.table.specs.declared.Table.{Table}
 use Rattle.table.specs.Answers.{isAccepted}
-use Rattle.table.specs.Reading.{tableIn, readAnswer}
+use Rattle.table.specs.Reading.{ReadTable}
 use Rattle.schedule.specs.declared.Job.{Job}
 use Rattle.schedule.specs.declared.Run.{Run}
 use Rattle.schedule.specs.Jobs.{jobOf, jobAt, workOf, counts}
 use Rattle.schedule.specs.Runs.{runOf, sumRuns}
 use Rattle.schedule.specs.Judging.{noneEmpty, followFrom, eachFollows, knownTasks, insideWindow, inWindows, totalOf, exactTotals, verdictByJobs, verdict}
-use Rattle.schedule.specs.Judging.{countMarked, keptCount, discardedCount, judgeSays, judgeReply}
+use Rattle.schedule.specs.Judging.{markedWeight, keptCount, discardedCount, judgeSays, judgeReply}
 use Rattle.schedule.specs.Freedoms.{SameAtParts, EquallyGood}
 use Rattle.schedule.proofs.TickLaws.{count-same}
 use Rattle.schedule.proofs.JudgeLaws.{table-says}
@@ -48,7 +48,7 @@ exact-free launch t marks other runs h =
 
 -- marks at optional parts of 0 ticks are free: whatever they are, the lists are equally good
 pub zero-marks-free : (launch : ℕ) (t : Table) (marks other : List ℕ) (runs : List Run) → SameAtParts t marks other → EquallyGood launch t marks other runs
-unfolding verdict verdictByJobs countMarked jobAt jobOf
+unfolding verdict verdictByJobs markedWeight jobAt jobOf
 zero-marks-free launch t marks other runs h =
     let enters : List ℕ → ℕ → ℕ → Bool = λ list v k. and (counts (jobAt launch t k)) (eqb (getD list k 0) v) in
     let same : (v k : ℕ) → k < t .count → enters marks v k ≡ enters other v k = λ v k l. count-free (jobAt launch t k) (getD marks k 0) (getD other k 0) v (h k l) in
@@ -67,13 +67,13 @@ zero-marks-says launch t marks other runs h =
     rw (good .yes, good .kept, good .discarded)
 
 -- and where it refuses neither list, its two replies are one
-pub zero-marks-judged : (launch : ℕ) (file marks other : List ℕ) (runs : List Run) → SameAtParts (tableIn file) marks other
-    → judgeReply launch file marks runs .number ≡ 0 → judgeReply launch file other runs .number ≡ 0
-    → judgeReply launch file marks runs ≡ judgeReply launch file other runs
+pub zero-marks-judged : (launch : ℕ) (read : ReadTable) (marks other : List ℕ) (runs : List Run) → SameAtParts (read .table) marks other
+    → judgeReply launch read marks runs .number ≡ 0 → judgeReply launch read other runs .number ≡ 0
+    → judgeReply launch read marks runs ≡ judgeReply launch read other runs
 unfolding judgeReply
-zero-marks-judged launch file marks other runs h =
-    let t = tableIn file in
-    cases (isAccepted (readAnswer file))
+zero-marks-judged launch read marks other runs h =
+    let t = read .table in
+    cases (isAccepted (read .answer))
     (λ e.
     rw e
     (λ a b.

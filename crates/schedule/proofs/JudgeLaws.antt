@@ -9,7 +9,7 @@ use native.Mathlib.Omega.{arith}
 use lib.Dec.{leb, ltb, eqb}
 use lib.ListN.{length, getD}
 use borrow.Author.Tests.{leb-true, ltb-true, eqb-true, eqb-false, le-leb, lt-ltb, eq-eqb, ne-eqb}
-use Rattle.base.specs.Tests.{and}
+use Rattle.base.specs.Tests.{pick, and}
 use Rattle.base.specs.Places.{placesFrom, places}
 use Rattle.base.proofs.TestLaws.{cases, and-true, and-left, and-right}
 use Rattle.base.proofs.LowestLaws.{every-below}
@@ -17,19 +17,19 @@ use Rattle.clock.specs.Clock.{badLaunch}
 use Rattle.table.specs.declared.Table.{Table}
 use Rattle.table.specs.declared.Answer.{Answer}
 use Rattle.table.specs.Answers.{numberOf, isAccepted}
-use Rattle.table.specs.Reading.{tableIn, readAnswer}
+use Rattle.table.specs.Reading.{ReadTable}
 use Rattle.table.proofs.AnswerLaws.{refused-number}
 use Rattle.schedule.specs.declared.Job.{Job}
 use Rattle.schedule.specs.declared.Judged.{Judged}
 use Rattle.schedule.specs.Jobs.{jobOf, jobAt, jobsOf, workOf, counts}
-use Rattle.schedule.specs.Ticks.{Owner, oneIf, countBelow, sumBelow}
-use Rattle.schedule.specs.Runnings.{WindowHolds, got, Gets, discards, Whole}
+use Rattle.schedule.specs.Ticks.{Owner, sumBelow}
+use Rattle.schedule.specs.Runnings.{WindowHolds, got, Gets, discardedWeight, Whole}
 use Rattle.base.specs.Members.{All, Any}
 use Rattle.base.proofs.MemberLaws.{all-map, any-map, all-members, any-member, all-places, any-places}
 use Rattle.base.specs.Sums.{total}
 use Rattle.schedule.specs.declared.Run.{Run}
 use Rattle.schedule.specs.Runs.{runHolds, ownerOf, Together, tooMany}
-use Rattle.schedule.specs.Judging.{noneEmpty, eachFollows, knownTasks, insideWindow, inWindows, totalOf, exactTotals, verdictByJobs, verdict, countMarked, keptCount, discardedCount, firstBadMark, judgeSays, judgeByVerdict, judgeTable, judgeReply, Acceptable}
+use Rattle.schedule.specs.Judging.{noneEmpty, eachFollows, knownTasks, insideWindow, inWindows, totalOf, exactTotals, verdictByJobs, verdict, markedWeight, keptCount, discardedCount, firstBadMark, judgeSays, judgeByVerdict, judgeTable, judgeReply, Acceptable}
 use Rattle.schedule.proofs.RunLaws.{in-holds, run-holds, every-each, owner-is-run, owner-has-run, run-ticks}
 
 -- The conditions of the verdict, as facts of each run and of each task.
@@ -204,23 +204,25 @@ judge-verdict launch t marks runs = (
 )
 
 -- what a running discards, from place i on
-discards-from : (at : ℕ → Job) (owner : Owner) (test : ℕ → Bool) (i n : ℕ)
+discards-from : (weight : ℕ → ℕ) (at : ℕ → Job) (owner : Owner) (test : ℕ → Bool) (i n : ℕ)
     → ((k : ℕ) → i ≤ k → k < i + n → and (counts (at k)) (eqb (got owner (at k)) (at k .mandatory)) ≡ test k)
-    → discards (placesFrom at i n) owner + countBelow test i ≡ countBelow test (i + n)
-unfolding discards placesFrom sumBelow
-discards-from at owner test i zero h = let e : i + 0 ≡ i = omega arith in rw e (omega arith)
-discards-from at owner test i (suc n) h =
+    → discardedWeight weight (placesFrom at i n) owner + sumBelow (λ k. pick (test k) (weight (at k .position)) 0) i
+    ≡ sumBelow (λ k. pick (test k) (weight (at k .position)) 0) (i + n)
+unfolding discardedWeight placesFrom sumBelow
+discards-from weight at owner test i zero h = let e : i + 0 ≡ i = omega arith in rw e (omega arith)
+discards-from weight at owner test i (suc n) h =
     let e : suc i + n ≡ i + suc n = omega arith in
-    let q = discards-from at owner test (suc i) n (λ k l m. h k (omega arith) (omega arith)) in
-    rw (← e) (omega (arith, q, ap oneIf (h i (omega arith) (omega arith))))
+    let q = discards-from weight at owner test (suc i) n (λ k l m. h k (omega arith) (omega arith)) in
+    rw (← e) (omega (arith, q, ap (λ (b : Bool). pick b (weight (at i .position)) 0) (h i (omega arith) (omega arith))))
 
 -- what a running discards, place by place
-pub discards-places : (at : ℕ → Job) (owner : Owner) (test : ℕ → Bool) (n : ℕ)
-    → ((k : ℕ) → k < n → and (counts (at k)) (eqb (got owner (at k)) (at k .mandatory)) ≡ test k) → discards (places at n) owner ≡ countBelow test n
+pub discards-places : (weight : ℕ → ℕ) (at : ℕ → Job) (owner : Owner) (test : ℕ → Bool) (n : ℕ)
+    → ((k : ℕ) → k < n → and (counts (at k)) (eqb (got owner (at k)) (at k .mandatory)) ≡ test k)
+    → discardedWeight weight (places at n) owner ≡ sumBelow (λ k. pick (test k) (weight (at k .position)) 0) n
 unfolding places sumBelow
-discards-places at owner test n h =
+discards-places weight at owner test n h =
     let e : 0 + n ≡ n = omega arith in
-    omega (arith, rw e at (discards-from at owner test 0 n (λ k l m. h k (omega arith))))
+    omega (arith, rw e at (discards-from weight at owner test 0 n (λ k l m. h k (omega arith))))
 
 -- a job that gets the work of its mark has its optional part discarded exactly where it has one and the mark is 0
 pub discarded-mark : (owner : Owner) (job : Job) (mark : ℕ) → mark ≤ 1 → got owner job ≡ workOf job mark
@@ -240,12 +242,12 @@ discarded-mark owner job mark l e =
     rw (c, eq-eqb (got owner job) (job .mandatory) (omega arith), eq-eqb mark 0 (omega arith))))
     (λ c. rw c)
 
--- the discarded count of the judge is what the running discards
-pub together-discards : (launch : ℕ) (t : Table) (marks : List ℕ) (runs : List Run) → ((k : ℕ) → k < t .count → getD marks k 0 ≤ 1)
-    → Together (jobsOf launch t) marks runs → discards (jobsOf launch t) (ownerOf runs) ≡ discardedCount t marks
-unfolding jobsOf jobAt jobOf countMarked
-together-discards launch t marks runs low g =
-    discards-places (jobAt launch t) (ownerOf runs) (λ k. and (counts (jobAt launch t k)) (eqb (getD marks k 0) 0)) (t .count)
+-- what the marks of discarded parts weigh is what the running discards; so the discarded count of the judge is how many it discards
+pub together-discards : (weight : ℕ → ℕ) (launch : ℕ) (t : Table) (marks : List ℕ) (runs : List Run) → ((k : ℕ) → k < t .count → getD marks k 0 ≤ 1)
+    → Together (jobsOf launch t) marks runs → discardedWeight weight (jobsOf launch t) (ownerOf runs) ≡ markedWeight 0 weight t marks
+unfolding jobsOf jobAt jobOf markedWeight
+together-discards weight launch t marks runs low g =
+    discards-places weight (jobAt launch t) (ownerOf runs) (λ k. and (counts (jobAt launch t k)) (eqb (getD marks k 0) 0)) (t .count)
     (λ k l. discarded-mark (ownerOf runs) (jobAt launch t k) (getD marks k 0) (low k l) (together-work launch t marks runs g k l))
 
 -- the reply of a judge that refuses nothing is the verdict, with the counts that come with a yes
@@ -271,17 +273,17 @@ refused-nonzero a e z = eqb-false (numberOf a) 0 (refused-number a e) z
 
 -- Where the judge refuses nothing, it says yes exactly when the runs follow one another in time, none is empty, and list and runs together are
 -- a running.
-pub judge-sound : (launch : ℕ) (file marks : List ℕ) (runs : List Run) → judgeReply launch file marks runs .number ≡ 0
-    → (judgeReply launch file marks runs .yes ≡ true) ↔ Acceptable launch file marks runs
+pub judge-sound : (launch : ℕ) (read : ReadTable) (marks : List ℕ) (runs : List Run) → judgeReply launch read marks runs .number ≡ 0
+    → (judgeReply launch read marks runs .yes ≡ true) ↔ Acceptable launch (read .table) marks runs
 unfolding judgeReply
-judge-sound launch file marks runs =
-    cases (isAccepted (readAnswer file))
+judge-sound launch read marks runs =
+    cases (isAccepted (read .answer))
     (λ e.
     rw e
     (λ z.
-    let same = ap (λ (j : Judged). j .yes) (table-says launch (tableIn file) marks runs z) in
-    let law = judge-verdict launch (tableIn file) marks runs in (
+    let same = ap (λ (j : Judged). j .yes) (table-says launch (read .table) marks runs z) in
+    let law = judge-verdict launch (read .table) marks runs in (
       λ y. let f = law .0 (sym same ∙ y) in record { follow = f .1; nonempty = f .0; together = f .2 },
       λ f. same ∙ law .1 (f .nonempty, f .follow, f .together),
     )))
-    (λ e. rw e (λ z. absurd (refused-nonzero (readAnswer file) e z)))
+    (λ e. rw e (λ z. absurd (refused-nonzero (read .answer) e z)))

@@ -9,7 +9,7 @@ use Rattle.clock.specs.Clock.{badLaunch}
 use Rattle.clock.proofs.ClockLaws.{release-launch-0, deadline-launch-0, release-later, deadline-later}
 use Rattle.table.specs.declared.Table.{Table}
 use Rattle.table.specs.Tables.{taskAt}
-use Rattle.table.specs.Reading.{tableIn}
+use Rattle.table.specs.Reading.{ReadTable}
 use Rattle.schedule.specs.declared.Run.{Run}
 use Rattle.schedule.specs.Jobs.{jobOf, jobAt}
 use Rattle.schedule.specs.Runs.{tooMany}
@@ -44,13 +44,13 @@ verdict-launch launch t marks runs =
     )
 
 -- So the judge's reply to them at an accepted launch tick is its reply to the runs with launch 0, refusals too.
-pub judge-launch : (launch : ℕ) (file marks : List ℕ) (runs : List Run) → badLaunch launch ≡ false
-    → judgeReply launch file marks (laterRuns launch runs) ≡ judgeReply 0 file marks runs
+pub judge-launch : (launch : ℕ) (read : ReadTable) (marks : List ℕ) (runs : List Run) → badLaunch launch ≡ false
+    → judgeReply launch read marks (laterRuns launch runs) ≡ judgeReply 0 read marks runs
 unfolding judgeReply judgeTable judgeByVerdict tooMany
-judge-launch launch file marks runs low =
-    rw (low, length-map runs (laterRun launch), verdict-launch launch (tableIn file) marks runs)
+judge-launch launch read marks runs low =
+    rw (low, length-map runs (laterRun launch), verdict-launch launch (read .table) marks runs)
 
 -- With launch 0 every earlier answer of the judge holds.
-pub judge-launch-0 : (file marks : List ℕ) (runs : List Run) → judgeReply 0 file marks runs ≡ earlierJudged file marks runs
+pub judge-launch-0 : (read : ReadTable) (marks : List ℕ) (runs : List Run) → judgeReply 0 read marks runs ≡ earlierJudged read marks runs
 unfolding judgeReply judgeTable verdict earlierJudged
-judge-launch-0 file marks runs = rw (fun-ext (job-launch-0 (tableIn file)))
+judge-launch-0 read marks runs = rw (fun-ext (job-launch-0 (read .table)))

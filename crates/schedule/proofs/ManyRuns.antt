@@ -6,6 +6,7 @@ use mathlib.Core.Bool.{Bool, true}
 use mathlib.Core.List.{List}
 use Rattle.schedule.specs.declared.Run.{Run}
 use Rattle.schedule.specs.Runs.{tooMany}
+use Rattle.table.specs.Reading.{ReadTable}
 use Rattle.schedule.specs.Judging.{judgeByVerdict, judgeTable, judgeReply}
 use Rattle.schedule.specs.RunCheck.{checkAnswer, runsAccepted}
 use Rattle.schedule.specs.BusyCount.{busyReply}
@@ -18,9 +19,9 @@ abbrev pub OneForMany : {A : Type 0} → (List Run → A) → Type 0
 OneForMany reply = (runs other : List Run) → tooMany runs ≡ true → tooMany other ≡ true → reply runs ≡ reply other
 
 -- of the judge it is what goes before 13, or 13
-pub judge-many : (launch : ℕ) (file marks : List ℕ) → OneForMany (judgeReply launch file marks)
+pub judge-many : (launch : ℕ) (read : ReadTable) (marks : List ℕ) → OneForMany (judgeReply launch read marks)
 unfolding judgeReply judgeTable judgeByVerdict
-judge-many launch file marks runs other e f = rw (e, f)
+judge-many launch read marks runs other e f = rw (e, f)
 
 -- of the check, the busy count and the queries it is 13, before 15
 pub check-many : OneForMany checkAnswer

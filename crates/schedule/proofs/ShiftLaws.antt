@@ -19,7 +19,7 @@ use Rattle.schedule.specs.declared.Job.{Job}
 use Rattle.schedule.specs.declared.Run.{Run}
 use Rattle.schedule.specs.Jobs.{windowTicks, workOf}
 use Rattle.schedule.specs.Ticks.{Owner, isTask, countBelow, countBetween, sumBelow}
-use Rattle.schedule.specs.Runnings.{WindowHolds, got, Gets, Running, discards, Whole}
+use Rattle.schedule.specs.Runnings.{WindowHolds, got, Gets, Running, discardedWeight, Whole}
 use Rattle.schedule.specs.Runs.{sumRuns, ownerOf, Together}
 use Rattle.schedule.specs.Judging.{noneEmpty, followFrom, eachFollows, knownTasks, insideWindow, inWindows, totalOf, exactTotals}
 use Rattle.schedule.specs.Shifting.{laterRun, laterRuns}
@@ -74,10 +74,10 @@ module _ (c : ℕ) where
         count-shift (λ tick. isTask i (owner tick)) (λ tick. isTask i (later tick)) (λ tick. ap (isTask i) (l .same tick)) (job .release) (job .deadline)
 
     -- As many optional parts are discarded.
-    pub discards-shift : (jobs : List Job) → discards (laterJobs c jobs) later ≡ discards jobs owner
-    unfolding discards
-    discards-shift [] = refl
-    discards-shift (job ∷ jobs) = rw (got-shift job, discards-shift jobs)
+    pub discards-shift : (weight : ℕ → ℕ) (jobs : List Job) → discardedWeight weight (laterJobs c jobs) later ≡ discardedWeight weight jobs owner
+    unfolding discardedWeight
+    discards-shift weight [] = refl
+    discards-shift weight (job ∷ jobs) = rw (got-shift job, discards-shift weight jobs)
 
     -- the later jobs get one of their two amounts each where the jobs do
     gets-later : (jobs : List Job) → All (Gets Whole owner) jobs → All (Gets Whole later) (laterJobs c jobs)

@@ -19,7 +19,7 @@ use Rattle.clock.specs.Clock.{badLaunch}
 use Rattle.table.specs.declared.Table.{Table}
 use Rattle.table.specs.declared.Answer.the-variants.{Accepted}
 use Rattle.table.specs.Answers.{numberOf, placeOf, isAccepted}
-use Rattle.table.specs.Reading.{tableIn, readAnswer}
+use Rattle.table.specs.Reading.{ReadTable}
 use Rattle.schedule.specs.declared.Job.{Job}
 use Rattle.schedule.specs.declared.Judged.{Judged}
 use Rattle.schedule.specs.Jobs.{jobOf, jobAt, workOf, counts}
@@ -28,7 +28,7 @@ use Rattle.schedule.specs.Ticks.{countBelow}
 use Rattle.schedule.specs.declared.Run.{Run}
 use Rattle.schedule.specs.Runs.{tooMany}
 use Rattle.schedule.specs.Judging.{noneEmpty, followFrom, eachFollows, knownTasks, inWindows, totalOf, exactTotals, verdictByJobs, verdict}
-use Rattle.schedule.specs.Judging.{countMarked, keptCount, discardedCount, firstBadMark, judgeDeclined, judgeByVerdict, judgeTable, judgeReply, Acceptable}
+use Rattle.schedule.specs.Judging.{markedWeight, countMarked, keptCount, discardedCount, firstBadMark, judgeDeclined, judgeByVerdict, judgeTable, judgeReply, Acceptable}
 use Rattle.schedule.proofs.TickLaws.{count-same}
 use Rattle.schedule.proofs.JudgeLaws.{judge-sound}
 use Rattle.schedule.specs.Passing.{passes, verdictByPass}
@@ -91,7 +91,7 @@ jobs-at launch t jobs m e k l =
 -- how many parts have a mark is the same over such an array and over the table
 pub marked-same : (mark launch : ℕ) (t : Table) (marks : List ℕ) (job : ℕ → Job) → ((k : ℕ) → k < t .count → job k ≡ jobAt launch t k)
     → countBelow (λ k. and (counts (job k)) (eqb (getD marks k 0) mark)) (t .count) ≡ countMarked mark t marks
-unfolding countMarked jobAt jobOf
+unfolding markedWeight jobAt jobOf
 marked-same mark launch t marks job h =
     count-same (λ k. and (counts (job k)) (eqb (getD marks k 0) mark)) (λ k. and (counts (jobAt launch t k)) (eqb (getD marks k 0) mark)) (t .count)
     (λ k l. ap (λ (j : Job). and (counts j) (eqb (getD marks k 0) mark)) (h k l))
@@ -129,20 +129,20 @@ module _ (launch : ℕ) (t : Table) (marks : List ℕ) (runs : List Run) where
           says-no e = rw (accepted, eq-eqb (length marks) (t .count) long, le-ltb (firstBadMark marks (t .count)) (t .count) good, few, e)
 
 -- a refusal of reading is the judge's
-pub read-refused : (launch : ℕ) (file marks : List ℕ) (runs : List Run) → isAccepted (readAnswer file) ≡ false
-    → judgeDeclined (numberOf (readAnswer file)) (placeOf (readAnswer file)) ≡ judgeReply launch file marks runs
+pub read-refused : (launch : ℕ) (read : ReadTable) (marks : List ℕ) (runs : List Run) → isAccepted (read .answer) ≡ false
+    → judgeDeclined (numberOf (read .answer)) (placeOf (read .answer)) ≡ judgeReply launch read marks runs
 unfolding judgeReply
-read-refused launch file marks runs e = rw e
+read-refused launch read marks runs e = rw e
 
 -- on an accepted file the judge replies as on its table
-pub read-accepted : (launch : ℕ) (file marks : List ℕ) (runs : List Run) → readAnswer file ≡ Accepted
-    → judgeTable launch (tableIn file) marks runs ≡ judgeReply launch file marks runs
+pub read-accepted : (launch : ℕ) (read : ReadTable) (marks : List ℕ) (runs : List Run) → read .answer ≡ Accepted
+    → judgeTable launch (read .table) marks runs ≡ judgeReply launch read marks runs
 unfolding judgeReply
-read-accepted launch file marks runs e = rw e
+read-accepted launch read marks runs e = rw e
 
 -- a reply that is the judge's is sound
-pub sound-of : (launch : ℕ) (file marks : List ℕ) (runs : List Run) (r : Judged) → r ≡ judgeReply launch file marks runs
-    → r .number ≡ 0 → (r .yes ≡ true) ↔ Acceptable launch file marks runs
-sound-of launch file marks runs r e z =
-    let law = judge-sound launch file marks runs (ap (λ (j : Judged). j .number) (sym e) ∙ z) in
+pub sound-of : (launch : ℕ) (read : ReadTable) (marks : List ℕ) (runs : List Run) (r : Judged) → r ≡ judgeReply launch read marks runs
+    → r .number ≡ 0 → (r .yes ≡ true) ↔ Acceptable launch (read .table) marks runs
+sound-of launch read marks runs r e z =
+    let law = judge-sound launch read marks runs (ap (λ (j : Judged). j .number) (sym e) ∙ z) in
     (λ y. law .0 (ap (λ (j : Judged). j .yes) (sym e) ∙ y), λ f. ap (λ (j : Judged). j .yes) e ∙ law .1 f)

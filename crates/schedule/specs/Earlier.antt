@@ -5,7 +5,7 @@ use mathlib.Core.List.{List}
 use Rattle.clock.specs.Clock.{releaseOffset, deadlineOffset}
 use Rattle.table.specs.declared.Table.{Table}
 use Rattle.table.specs.Tables.{taskAt}
-use Rattle.table.specs.Reading.{replyOnFile}
+use Rattle.table.specs.Reading.{ReadTable, replyOnRead}
 use Rattle.schedule.specs.declared.Job.{Job}
 use Rattle.schedule.specs.declared.Judged.{Judged}
 use Rattle.schedule.specs.declared.Run.{Run}
@@ -19,6 +19,6 @@ earlierJobAt t k =
     jobBetween (releaseOffset (t .p) (t .q) (task .release)) (deadlineOffset (t .p) (t .q) (task .deadline)) k task
 
 -- the reply of judging: reading's refusals, then 11 and 13
-unfoldable pub earlierJudged : List ℕ → List ℕ → List Run → Judged
-earlierJudged file marks runs =
-    replyOnFile judgeDeclined (λ t. judgeByVerdict (verdictByJobs (earlierJobAt t) (t .count) marks runs) t marks runs) file
+unfoldable pub earlierJudged : ReadTable → List ℕ → List Run → Judged
+earlierJudged read marks runs =
+    replyOnRead judgeDeclined (λ t. judgeByVerdict (verdictByJobs (earlierJobAt t) (t .count) marks runs) t marks runs) read

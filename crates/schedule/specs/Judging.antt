@@ -12,11 +12,11 @@ use Rattle.base.specs.Members.{everyMember}
 use Rattle.clock.specs.Clock.{badLaunch}
 use Rattle.table.specs.declared.Table.{Table}
 use Rattle.table.specs.Tables.{taskAt}
-use Rattle.table.specs.Reading.{tableIn, replyOnFile}
+use Rattle.table.specs.Reading.{ReadTable, oneEach, replyOnRead}
 use Rattle.schedule.specs.declared.Job.{Job}
 use Rattle.schedule.specs.declared.Judged.{Judged}
 use Rattle.schedule.specs.Jobs.{jobAt, jobsOf, workOf}
-use Rattle.schedule.specs.Ticks.{countBelow}
+use Rattle.schedule.specs.Ticks.{sumBelow}
 use Rattle.schedule.specs.declared.Run.{Run}
 use Rattle.schedule.specs.Runs.{sumRuns, Together, tooMany}
 
@@ -62,9 +62,14 @@ verdictByJobs job n marks runs =
 unfoldable pub verdict : ℕ → Table → List ℕ → List Run → Bool
 verdict launch t marks runs = verdictByJobs (jobAt launch t) (t .count) marks runs
 
--- how many optional parts above 0 ticks have this mark
-unfoldable pub countMarked : ℕ → Table → List ℕ → ℕ
-countMarked mark t marks = countBelow (λ k. and (ltb 0 (taskAt t k .optional)) (eqb (getD marks k 0) mark)) (t .count)
+-- what the optional parts above 0 ticks that have this mark weigh together, where `weight k` is what the one of position k weighs
+unfoldable pub markedWeight : ℕ → (ℕ → ℕ) → Table → List ℕ → ℕ
+markedWeight mark weight t marks =
+    sumBelow (λ k. pick (and (ltb 0 (taskAt t k .optional)) (eqb (getD marks k 0) mark)) (weight k) 0) (t .count)
+
+-- how many there are: each weighs 1
+abbrev pub countMarked : ℕ → Table → List ℕ → ℕ
+countMarked mark t marks = markedWeight mark oneEach t marks
 
 -- the counts that come with a yes
 abbrev pub keptCount : Table → List ℕ → ℕ
@@ -98,17 +103,17 @@ unfoldable pub judgeTable : ℕ → Table → List ℕ → List Run → Judged
 judgeTable launch t marks runs =
     pick (badLaunch launch) (judgeDeclined 14 0) (judgeByVerdict (verdict launch t marks runs) t marks runs)
 
--- the reply of judging: reading's refusals, then 14, 11 and 13
-unfoldable pub judgeReply : ℕ → List ℕ → List ℕ → List Run → Judged
-judgeReply launch file marks runs = replyOnFile judgeDeclined (λ t. judgeTable launch t marks runs) file
+-- the reply of judging on what was read of a file: reading's refusals, then 14, 11 and 13
+unfoldable pub judgeReply : ℕ → ReadTable → List ℕ → List Run → Judged
+judgeReply launch read marks runs = replyOnRead judgeDeclined (λ t. judgeTable launch t marks runs) read
 
 -- what demand 2 asks of a keep list and runs that the judge accepts: the runs follow one another in time, none is empty, and list and runs together
 -- are a running of the table
-pub record Acceptable (launch : ℕ) (file marks : List ℕ) (runs : List Run) : Type 0 where
+pub record Acceptable (launch : ℕ) (t : Table) (marks : List ℕ) (runs : List Run) : Type 0 where
   pub follow : eachFollows runs ≡ true
   pub nonempty : noneEmpty runs ≡ true
-  pub together : Together (jobsOf launch (tableIn file)) marks runs
+  pub together : Together (jobsOf launch t) marks runs
 
 -- Demand 2: where the judge refuses nothing, it says yes exactly when list and runs are so
-abbrev pub Sound : ℕ → List ℕ → List ℕ → List Run → Judged → Type 0
-Sound launch file marks runs reply = reply .number ≡ 0 → (reply .yes ≡ true) ↔ Acceptable launch file marks runs
+abbrev pub Sound : ℕ → ReadTable → List ℕ → List Run → Judged → Type 0
+Sound launch read marks runs reply = reply .number ≡ 0 → (reply .yes ≡ true) ↔ Acceptable launch (read .table) marks runs

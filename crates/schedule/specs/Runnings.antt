@@ -6,11 +6,12 @@ use mathlib.Core.Logic.{_⊎_}
 use mathlib.Core.List.{List, [], _∷_}
 use mathlib.Core.Option.{some}
 use lib.Dec.{eqb}
-use Rattle.base.specs.Tests.{and}
+use Rattle.base.specs.Tests.{pick, and}
 use Rattle.base.specs.Members.{All, Any}
+use Rattle.table.specs.Reading.{oneEach}
 use Rattle.schedule.specs.declared.Job.{Job}
 use Rattle.schedule.specs.Jobs.{counts}
-use Rattle.schedule.specs.Ticks.{Owner, ticksOf, oneIf}
+use Rattle.schedule.specs.Ticks.{Owner, ticksOf}
 
 -- the job has position i, and its window holds the tick
 abbrev pub WindowHolds : ℕ → ℕ → Job → Type 0
@@ -37,11 +38,21 @@ Whole job n = (n ≡ job .mandatory) ⊎ (n ≡ job .mandatory + job .optional)
 abbrev pub Running : List Job → Owner → Type 0
 Running jobs owner = RunningOf Whole jobs owner
 
--- how many optional parts above 0 ticks a running discards: those whose job gets its mandatory ticks alone
-unfoldable pub discards : List Job → Owner → ℕ
-discards [] owner = 0
-discards (job ∷ jobs) owner = oneIf (and (counts job) (eqb (got owner job) (job .mandatory))) + discards jobs owner
+-- what the optional parts that a running discards weigh together, where `weight k` is what the one of position k weighs: it discards those above 0 ticks
+-- whose job gets its mandatory ticks alone
+unfoldable pub discardedWeight : (ℕ → ℕ) → List Job → Owner → ℕ
+discardedWeight weight [] owner = 0
+discardedWeight weight (job ∷ jobs) owner =
+    pick (and (counts job) (eqb (got owner job) (job .mandatory))) (weight (job .position)) 0 + discardedWeight weight jobs owner
 
--- no running of the jobs discards fewer optional parts
+-- how many it discards: each weighs 1
+abbrev pub discards : List Job → Owner → ℕ
+discards = discardedWeight oneEach
+
+-- no running of the jobs discards less weight
+abbrev pub LeastWeight : (ℕ → ℕ) → List Job → Owner → Type 0
+LeastWeight weight jobs owner = (other : Owner) → Running jobs other → discardedWeight weight jobs owner ≤ discardedWeight weight jobs other
+
+-- nor fewer optional parts
 abbrev pub Fewest : List Job → Owner → Type 0
-Fewest jobs owner = (other : Owner) → Running jobs other → discards jobs owner ≤ discards jobs other
+Fewest = LeastWeight oneEach

@@ -3,6 +3,7 @@ use Prim.Native.Nat.{ℕ, zero, suc, _+_, _-_}
 use mathlib.Core.Bool.{Bool, true, false}
 use mathlib.Core.Option.{Option, none, some}
 use lib.Dec.{eqb}
+use Rattle.base.specs.Tests.{pick}
 
 -- each tick has one task, by its position, or none
 abbrev pub Owner : Type 0
@@ -20,8 +21,7 @@ isOwned (some k) = true
 
 -- 1 if a test is passed, and else 0
 abbrev pub oneIf : Bool → ℕ
-oneIf true = 1
-oneIf false = 0
+oneIf test = pick test 1 0
 
 -- the sum of `number k` over all k below n
 unfoldable pub sumBelow : (ℕ → ℕ) → ℕ → ℕ

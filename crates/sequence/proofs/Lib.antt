@@ -8,7 +8,6 @@ pub mod RunListLaws
 pub mod LateLaws
 pub mod OrderRunnings
 pub mod WalkLaws
-pub mod RewriteLaws
 pub mod KeptRowLaws
 pub mod AllKeptLaws
 pub mod OrderSampleLaws

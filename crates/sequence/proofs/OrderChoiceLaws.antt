@@ -8,7 +8,7 @@ use native.Mathlib.Omega.{arith}
 use Rattle.schedule.specs.declared.Job.{Job}
 use Rattle.base.specs.Members.{All}
 use Rattle.base.proofs.MemberLaws.{all-map}
-use Rattle.choice.specs.Choice.{keepNone, keptWorth, countOne}
+use Rattle.choice.specs.Choice.{keepNone, keptWorth, weighed}
 use Rattle.choice.specs.KeepLists.{ZeroKept}
 use Rattle.choice.specs.Programme.{allWorth}
 use Rattle.choice.proofs.LexLaws.{LexAtMost}
@@ -18,7 +18,7 @@ use Rattle.choice.proofs.FitLaws.{worth-split}
 use Rattle.choice.proofs.ProgrammeLaws.{greatest-is}
 use Rattle.choice.proofs.ChoiceLaws.{counted-zero}
 use Rattle.sequence.specs.InOrder.{finish, fitsInOrder}
-use Rattle.sequence.specs.OrderChoice.{choiceKeyInOrder, chosenInOrderOver, chosenInOrder}
+use Rattle.sequence.specs.OrderChoice.{choiceKeyInOrder, chosenInOrderOver}
 use Rattle.sequence.specs.OrderRows.{earliest, readBack, mostWorth, chosenByRows}
 use Rattle.sequence.proofs.InOrderLaws.{order-length, finish-by}
 use Rattle.sequence.proofs.OrderRowLaws.{EndsBy, earliest-least, back-ends, back-first, back-zero}
@@ -112,5 +112,6 @@ order-zero worth free jobs none =
     (back-zero worth huge free jobs (mostWorth worth huge jobs) (huge - 1) (omega arith) (omega arith))
 
 -- The planner's list marks each optional part of 0 ticks as kept.
-pub order-zero-kept : (jobs : List Job) → fitsInOrder jobs (keepNone jobs) ≡ true → ZeroKept jobs (chosenInOrder jobs)
-order-zero-kept jobs none = order-zero countOne (counted-zero (λ job. 1)) jobs none
+pub order-zero-kept : (weight : ℕ → ℕ) (jobs : List Job) → fitsInOrder jobs (keepNone jobs) ≡ true
+    → ZeroKept jobs (chosenInOrderOver (weighed weight) jobs)
+order-zero-kept weight jobs none = order-zero (weighed weight) (counted-zero (λ job. weight (job .position))) jobs none

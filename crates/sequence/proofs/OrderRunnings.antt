@@ -5,9 +5,9 @@ use mathlib.Core.List.{List}
 use mathlib.Core.Bool.{Bool, true}
 use Rattle.schedule.specs.declared.Job.{Job}
 use Rattle.schedule.specs.Jobs.{workOf}
-use Rattle.schedule.specs.Runnings.{Whole, discards}
+use Rattle.schedule.specs.Runnings.{Whole, discardedWeight}
 use Rattle.schedule.specs.Runs.{Together}
-use Rattle.choice.specs.Choice.{worksOf, discarded}
+use Rattle.choice.specs.Choice.{worksOf, discardedWorth, weighed}
 use Rattle.placement.proofs.PlacedRunnings.{list-discards}
 use Rattle.placement.proofs.PlanLaws.{SameMarks, marks-say, listed-together}
 use Rattle.sequence.specs.Similar.{SimilarJobs}
@@ -15,9 +15,9 @@ use Rattle.sequence.specs.InOrder.{fitsInOrder, placedInOrder, runsInOrd
 use Rattle.sequence.proofs.OrderSufficiency.{order-work, order-running, order-listed}
 
 -- A list that fits, placed, discards what the list discards.
-pub order-discards : (jobs : List Job) (keeps : List Bool) → SimilarJobs jobs → fitsInOrder jobs keeps ≡ true
-    → discards jobs (placedInOrder jobs keeps) ≡ discarded jobs keeps
-order-discards jobs keeps s e = list-discards (placedInOrder jobs keeps) jobs keeps (order-work jobs keeps s e)
+pub order-discards : (weight : ℕ → ℕ) (jobs : List Job) (keeps : List Bool) → SimilarJobs jobs → fitsInOrder jobs keeps ≡ true
+    → discardedWeight weight jobs (placedInOrder jobs keeps) ≡ discardedWorth (weighed weight) jobs keeps
+order-discards weight jobs keeps s e = list-discards weight (placedInOrder jobs keeps) jobs keeps (order-work jobs keeps s e)
 
 -- Marks by position and the runs are together a running.
 pub order-together : (jobs : List Job) (keeps : List Bool) (marks : List ℕ) → SimilarJobs jobs → fitsInOrder jobs keeps ≡ true → SameMarks jobs keeps marks

@@ -12,12 +12,12 @@ use Rattle.schedule.specs.Jobs.{workWith}
 use Rattle.schedule.specs.Shifting.{laterRuns}
 use Rattle.schedule.specs.LaterJobs.{laterJob, laterJobs, LaterOwner}
 use Rattle.schedule.proofs.ShiftLaws.{leb-later, ltb-later}
-use Rattle.choice.specs.Choice.{keepNone, discardMarks, countOne}
+use Rattle.choice.specs.Choice.{keepNone, discardMarks, weighed}
 use Rattle.choice.proofs.ShiftLaws.{none-shift, discarded-shift, best-shift}
 use Rattle.placement.specs.Placing.{latestFirst, stretches}
 use Rattle.placement.proofs.ShiftLaws.{stretches-shift}
 use Rattle.sequence.specs.InOrder.{startsAt, endsAt, inTime, finish, fitsInOrder, placedInOrder, runsInOrder, firstLate}
-use Rattle.sequence.specs.OrderChoice.{choiceKeyInOrder, chosenInOrderOver, chosenInOrder}
+use Rattle.sequence.specs.OrderChoice.{choiceKeyInOrder, chosenInOrderOver}
 use Rattle.sequence.proofs.InOrderLaws.{work-cases, ends-none, ends-some}
 
 module _ (c : ℕ) where
@@ -76,8 +76,9 @@ module _ (c : ℕ) where
       (λ keeps. ap (λ (n : ℕ). n ∷ discardMarks keeps) (discarded-shift c worth same jobs keeps)) jobs
 
   -- as the planner's is.
-  pub chosen-shift : (jobs : List Job) → chosenInOrder (laterJobs c jobs) ≡ chosenInOrder jobs
-  chosen-shift jobs = chosen-shift-by countOne (λ job. refl) jobs
+  pub chosen-shift : (weight : ℕ → ℕ) (jobs : List Job)
+      → chosenInOrderOver (weighed weight) (laterJobs c jobs) ≡ chosenInOrderOver (weighed weight) jobs
+  chosen-shift weight jobs = chosen-shift-by (weighed weight) (λ job. refl) jobs
 
   -- Each tick is placed later by c.
   pub placed-shift : (jobs : List Job) (keeps : List Bool) → LaterOwner c (placedInOrder jobs keeps) (placedInOrder (laterJobs c jobs) keeps)

@@ -8,6 +8,7 @@ use lib.Dec.{leb, ltb}
 use lib.ListN.{length, getD}
 use Rattle.base.specs.Limits.{maxTasks}
 use Rattle.base.specs.Tests.{pick, and}
+use Rattle.base.specs.Arrays.{Rewritten}
 use Rattle.schedule.specs.declared.Job.{Job}
 use Rattle.schedule.specs.Jobs.{counts, workWith}
 use Rattle.schedule.specs.JobArrays.{noJob, jobsIn}
@@ -87,13 +88,6 @@ Blank rows = (k : ℕ) → k < length rows → getD rows k 0 ≡ hugeTicks
 pub record RowsKept (at : ℕ → Job) (count i : ℕ) (rows : List ℕ) : Type 0 where
   pub row : (k : ℕ) → i ≤ k → k ≤ count → (v : ℕ) → v ≤ count
       → getD rows (rowPlaces * k + v) 0 ≡ beside (mandatorySum (jobsFrom at count k)) (earliestOf (jobsFrom at count k) v)
-
--- of the places counted from `first` on, those from `low` up to but not at `high` hold their items, and every other place what it held before
-pub record Rewritten {A : Type 0} (blank : A) (item : ℕ → A) (first low high : ℕ) (before after : List A) : Type 0 where
-  pub same-length : length after ≡ length before
-  pub below : (k : ℕ) → k < first + low → getD after k blank ≡ getD before k blank
-  pub written : (v : ℕ) → low ≤ v → v < high → getD after (first + v) blank ≡ item v
-  pub beyond : (k : ℕ) → first + high ≤ k → getD after k blank ≡ getD before k blank
 
 -- a row was written, up to `most` parts, at the places from `at` on; the row that it is made from stands one row further
 abbrev pub RowPut : ((ℕ → ℕ) → ℕ → ℕ) → ℕ → ℕ → List ℕ → List ℕ → Type 0

@@ -1,6 +1,7 @@
 -- The laws of the answers: what a `let .. else` on one tells, what several come to in order, and what a reply tells that refuses nothing.
 use Prim.Native.Nat.{ℕ, _≤_, _<_}
 use mathlib.Core.Path.{_≡_, refl, sym, ap, _∙_}
+use mathlib.Core.Logic.{_≢_}
 use mathlib.Core.Bool.{Bool, true, false}
 use native.Mathlib.Omega.{arith}
 use mathlib.Core.List.{[], _∷_}
@@ -13,17 +14,17 @@ use Rattle.base.proofs.LowestLaws.{before, none-passes, same}
 use types.Run.{OneOf, miss}
 use denote.Enum.Declared.{tagOf}
 use Rattle.table.specs.declared.Answer.{Answer}
-use Rattle.table.specs.declared.Answer.the-variants.{Accepted, Short, Count, Long, Padding, Period, Window, Kind}
+use Rattle.table.specs.declared.Answer.the-variants.{Accepted, Short, Count, Long, Padding, Period, Window, Kind, Weight}
 use Rattle.table.specs.declared.Written.{Written}
 use Rattle.table.specs.Answers.{numberOf, placeOf, isAccepted, firstRefusal, lowestRefusal, declined}
 use Rattle.table.proofs.Answer.{the-type}
 
 -- the tag of a case that is not `Accepted`
 abbrev pub Refusing : ℕ → Type 0
-Refusing tag = OneOf (1 ∷ 2 ∷ 3 ∷ 4 ∷ 5 ∷ 6 ∷ 7 ∷ []) tag
+Refusing tag = OneOf (1 ∷ 2 ∷ 3 ∷ 4 ∷ 5 ∷ 6 ∷ 7 ∷ 8 ∷ []) tag
 
 no-zero : Refusing 0 → ⊥
-no-zero o = miss (1 ∷ 2 ∷ 3 ∷ 4 ∷ 5 ∷ 6 ∷ 7 ∷ []) 0 tt o
+no-zero o = miss (1 ∷ 2 ∷ 3 ∷ 4 ∷ 5 ∷ 6 ∷ 7 ∷ 8 ∷ []) 0 tt o
 
 -- in the `else` branch the answer is a refusal
 pub told-refused : (a : Answer) → Refusing (tagOf the-type a) → isAccepted a ≡ false
@@ -35,6 +36,7 @@ told-refused Padding o = refl
 told-refused Period o = refl
 told-refused (Window position) o = refl
 told-refused (Kind position) o = refl
+told-refused (Weight position) o = refl
 
 -- a refusal has a number that is not 0
 pub refused-number : (a : Answer) → isAccepted a ≡ false → eqb (numberOf a) 0 ≡ false
@@ -46,17 +48,19 @@ refused-number Padding e = refl
 refused-number Period e = refl
 refused-number (Window position) e = refl
 refused-number (Kind position) e = refl
+refused-number (Weight position) e = refl
 
--- no refusal of reading has a number above 7
-pub number-low : (a : Answer) → numberOf a ≤ 7
-number-low Accepted = omega arith
-number-low (Short length) = omega arith
-number-low Count = omega arith
-number-low (Long needed) = omega arith
-number-low Padding = omega arith
-number-low Period = omega arith
-number-low (Window position) = omega arith
-number-low (Kind position) = omega arith
+-- no refusal of reading has the number 8
+pub never-eight : (a : Answer) → numberOf a ≢ 8
+never-eight Accepted e = absurd (omega arith)
+never-eight (Short length) e = absurd (omega arith)
+never-eight Count e = absurd (omega arith)
+never-eight (Long needed) e = absurd (omega arith)
+never-eight Padding e = absurd (omega arith)
+never-eight Period e = absurd (omega arith)
+never-eight (Window position) e = absurd (omega arith)
+never-eight (Kind position) e = absurd (omega arith)
+never-eight (Weight position) e = absurd (omega arith)
 
 -- an answer that refuses nothing is `Accepted`
 pub accepted-is : (a : Answer) → isAccepted a ≡ true → a ≡ Accepted
@@ -68,6 +72,7 @@ accepted-is Padding e = both-absurd false e refl
 accepted-is Period e = both-absurd false e refl
 accepted-is (Window position) e = both-absurd false e refl
 accepted-is (Kind position) e = both-absurd false e refl
+accepted-is (Weight position) e = both-absurd false e refl
 
 -- where two answers in order refuse nothing, neither does
 pub firstRefusal-known : (a b : Answer) → firstRefusal a b ≡ Accepted → (a ≡ Accepted) × (b ≡ Accepted)

@@ -6,7 +6,6 @@ use mathlib.Core.List.{List}
 use lib.Dec.{eqb}
 use Rattle.base.specs.Lent.{writtenFront, contentAfter}
 use Rattle.table.specs.declared.Written.{Written}
-use Rattle.table.specs.Answers.{wrote}
 
 -- a refusal leaves the list as it was
 pub refused-keeps : (due reply : Written) (written out : List ℕ) → reply ≡ due → eqb (reply .number) 0 ≡ false → out ≡ contentAfter (due .number) written out
@@ -14,7 +13,7 @@ unfolding contentAfter
 refused-keeps due reply written out e n = rw (← e, n)
 
 -- an acceptance leaves the file, and beyond it what stood there
-pub accepted-leaves : (due : Written) (written : List ℕ) (bytes : ℕ) (out after : List ℕ) → wrote bytes ≡ due
+pub accepted-leaves : (due reply : Written) (written out after : List ℕ) → reply ≡ due → reply .number ≡ 0
     → after ≡ writtenFront written out → after ≡ contentAfter (due .number) written out
 unfolding contentAfter
-accepted-leaves due written bytes out after e a = a ∙ rw (← e)
+accepted-leaves due reply written out after e n a = a ∙ rw (← e, n)

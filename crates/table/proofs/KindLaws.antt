@@ -13,6 +13,7 @@ use Rattle.base.proofs.TestLaws.{cases, both-absurd, and-true, and-left, and-ri
 use Rattle.base.proofs.LowestLaws.{none-passes, no-some, none-some, some-same, lowest-both}
 use Rattle.table.specs.declared.Task.{Task}
 use Rattle.table.specs.declared.Table.{Table}
+use Rattle.table.specs.declared.Answer.{Answer}
 use Rattle.table.specs.declared.Answer.the-variants.{Accepted, Window, Kind}
 use Rattle.table.specs.Tables.{taskAt, Same}
 use Rattle.table.specs.Windows.{badWindow, contains, nested, noLater, similar}
@@ -26,8 +27,11 @@ use Rattle.table.specs.Kinds.{
   kindAnswer,
   windowsAnswer,
   tableWindowsAnswer,
+  nestingAnswer,
+  nestedAnswer,
 }
 use Rattle.table.specs.WindowColumns.{greatestNumber}
+use Rattle.table.specs.Answers.{firstRefusal}
 use Rattle.table.specs.Writing.{Legal}
 use Rattle.table.proofs.AnswerLaws.{firstRefusal-known, firstRefusal-test, none-refused, refused-none, refused-same}
 
@@ -211,6 +215,13 @@ pub windows-alike : {f g : ℕ → Task} {n : ℕ} → Alike f g n → windowsAn
 unfolding windowsAnswer
 windows-alike a = rw (bad-window-alike a, kind-alike a)
 
+-- So they are by the rules of a form that is nested alone, with the same answer of its own rule.
+pub nested-alike : (own : Answer) {f g : ℕ → Task} {n : ℕ} → Alike f g n → nestedAnswer own f n ≡ nestedAnswer own g n
+unfolding nestedAnswer nestingAnswer
+nested-alike own {f} {g} {n} a =
+    let crossing = refused-same Kind (failsEarlier nested f) (failsEarlier nested g) n (λ k l. fails-alike nested nested f g k (λ j m. a .nesting j k m l)) in
+    rw (bad-window-alike a, crossing)
+
 -- Tables that are the same have windows that stand alike,
 same-alike : {a b : Table} → Same a b → Alike (taskAt a) (taskAt b) (a .count)
 same-alike {a} {b} s =
@@ -220,6 +231,9 @@ same-alike {a} {b} s =
 pub window-same : {a b : Table} → Same a b → tableWindowsAnswer a ≡ tableWindowsAnswer b
 unfolding tableWindowsAnswer
 window-same {a} {b} s = windows-alike (same-alike s) ∙ ap (windowsAnswer (taskAt b)) (s .count)
+
+pub nested-same : (own : Answer) {a b : Table} → Same a b → nestedAnswer own (taskAt a) (a .count) ≡ nestedAnswer own (taskAt b) (b .count)
+nested-same own {a} {b} s = nested-alike own (same-alike s) ∙ ap (nestedAnswer own (taskAt b)) (s .count)
 
 -- What the windows tell when they are accepted: none is bad, and the table is nested or similar.
 pub record WindowsKnown (t : Table) : Type 0 where
@@ -255,3 +269,28 @@ legal-windows t l = window-known t (l .windows) .good
 -- A legal table that is not nested is similar.
 pub legal-similar : (t : Table) → Legal t → isNested t ≡ false → isSimilar t ≡ true
 legal-similar t l = similar-where t (l .windows)
+
+-- What the rules of a form that is nested alone tell of a table when they refuse nothing: no window is bad, the form's own rule refuses nothing, and the
+-- table is nested.
+pub record NestedKnown (own : Answer) (t : Table) : Type 0 where
+  pub good : (k : ℕ) → k < t .count → badWindow (taskAt t k) ≡ false
+  pub ruled : own ≡ Accepted
+  pub nesting : isNested t ≡ true
+
+-- A table of which they refuse nothing is so,
+pub nested-known : (own : Answer) (t : Table) → nestedAnswer own (taskAt t) (t .count) ≡ Accepted → NestedKnown own t
+unfolding nestedAnswer badWindowAnswer nestingAnswer isNested
+nested-known own t e =
+    let at : ℕ → Task = taskAt t in
+    let z = firstRefusal-known (badWindowAnswer at (t .count)) (firstRefusal own (nestingAnswer at (t .count))) e in
+    let rest = firstRefusal-known own (nestingAnswer at (t .count)) (z .1) in
+    let none = none-passes (failsEarlier nested at) (t .count) (refused-none Kind (λ k. refl) (failsEarlier nested at) (t .count) (rest .1)) in
+    record {
+      good = refused-none Window (λ k. refl) (λ k. badWindow (at k)) (t .count) (z .0);
+      ruled = rest .0;
+      nesting = pairs-found nested at (t .count) (omega (arith, none));
+    }
+
+-- and as a table of document 01 its windows are accepted.
+pub nested-windows : (own : Answer) (t : Table) → nestedAnswer own (taskAt t) (t .count) ≡ Accepted → tableWindowsAnswer t ≡ Accepted
+nested-windows own t e = let z = nested-known own t e in window-test t (record { good = z .good; kind = inl (z .nesting) })

@@ -9,3 +9,4 @@ pub mod RoundTrip
 pub mod MovedTables
 pub mod PrefixLaws
 pub mod ContentLaws
+pub mod PlainAnswers

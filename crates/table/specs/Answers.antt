@@ -1,12 +1,12 @@
--- What reading answers, as document 01's table of refusals has it, 7 as request 1 has it: for each case the number and the place. And the replies of calls
--- that write bytes.
+-- What reading answers, as document 01's table of refusals has it, 7 as request 1 and 16 as request 7 has it: for each case the number and the place. And the
+-- replies of calls that write bytes.
 use Prim.Native.Nat.{ℕ}
 use mathlib.Core.Bool.{Bool, true, false}
 use lib.Dec.{ltb}
 use Rattle.base.specs.Tests.{pick}
 use Rattle.base.specs.Lowest.{lowest}
 use Rattle.table.specs.declared.Answer.{Answer}
-use Rattle.table.specs.declared.Answer.the-variants.{Accepted, Short, Count, Long, Padding, Period, Window, Kind}
+use Rattle.table.specs.declared.Answer.the-variants.{Accepted, Short, Count, Long, Padding, Period, Window, Kind, Weight}
 use Rattle.table.specs.declared.Written.{Written}
 
 -- the number of a refusal; 0 where nothing is refused
@@ -19,6 +19,7 @@ numberOf Padding = 4
 numberOf Period = 5
 numberOf (Window position) = 6
 numberOf (Kind position) = 7
+numberOf (Weight position) = 16
 
 -- the place of a refusal: the file length, the length needed, a position, or 0
 abbrev pub placeOf : Answer → ℕ
@@ -30,6 +31,7 @@ placeOf Padding = 0
 placeOf Period = 0
 placeOf (Window position) = position
 placeOf (Kind position) = position
+placeOf (Weight position) = position
 
 -- nothing is refused
 abbrev pub isAccepted : Answer → Bool
@@ -41,6 +43,7 @@ isAccepted Padding = false
 isAccepted Period = false
 isAccepted (Window position) = false
 isAccepted (Kind position) = false
+isAccepted (Weight position) = false
 
 -- what two answers come to, one after the other: the first where it refuses, and else the second
 abbrev pub firstRefusal : Answer → Answer → Answer

@@ -47,6 +47,10 @@ windowsAnswer at n = firstRefusal (badWindowAnswer at n) (kindAnswer at n)
 unfoldable pub tableWindowsAnswer : Table → Answer
 tableWindowsAnswer t = windowsAnswer (taskAt t) (t .count)
 
--- 7 as document 01 has it, for readers and planners of nested tables alone, which are to come: the lowest position that is not nested with some earlier one
+-- 7 as document 01 has it, for forms of table that are nested alone: the lowest position that is not nested with some earlier one
 unfoldable pub nestingAnswer : (ℕ → Task) → ℕ → Answer
 nestingAnswer at n = lowestRefusal Kind (failsEarlier nested at) n
+
+-- what the tasks of such a form answer: 6, then a rule of the form's own, then 7
+unfoldable pub nestedAnswer : Answer → (ℕ → Task) → ℕ → Answer
+nestedAnswer own at n = firstRefusal (badWindowAnswer at n) (firstRefusal own (nestingAnswer at n))

@@ -6,11 +6,11 @@ ghost use Prim.Native.Nat.{_≤_, _<_, min};
 ghost use lib.ListN.{length, getD};
 ghost use Rattle.base.specs.Limits.{maxTasks, badPeriod};
 ghost use Rattle.base.specs.Lowest.{lowest, someBelow};
-ghost use Rattle.table.specs.Tables.{noTask, noTable, tableOf};
+ghost use Rattle.table.specs.Tables.{noTask, noTable, taskAt, tableOf};
 ghost use Rattle.table.specs.Answers.{numberOf, placeOf, declined, wrote};
 ghost use Rattle.table.specs.Windows.{badWindow, contains, nested};
-ghost use Rattle.table.specs.Kinds.{failsEarlier, badWindowAnswer, kindAnswer, nestingAnswer, ofNeitherKind, tableWindowsAnswer, windowsAnswer};
-ghost use Rattle.table.specs.WindowColumns.{windowAt, windowsLent, Mirrored};
+ghost use Rattle.table.specs.Kinds.{failsEarlier, badWindowAnswer, kindAnswer, nestedAnswer, nestingAnswer, ofNeitherKind, tableWindowsAnswer, windowsAnswer};
+ghost use Rattle.table.specs.WindowColumns.{windowAt, windowsLent, FramesOf, Mirrored};
 ghost use Rattle.table.specs.Layout.{badCount, rowsLength, fileLength};
 ghost use Rattle.table.specs.RowLimits.{widestRow};
 use base::MAX_PERIOD;
@@ -75,6 +75,12 @@ pub struct Table {
     pub tasks: [Task; MAX_TASKS],
 }
 
+// The frames of tasks in two columns: the release frames, and the deadline frames.
+struct FrameColumns {
+    releases: [u32; MAX_TASKS],
+    deadlines: [u32; MAX_TASKS],
+}
+
 // What reading answers: a case for each cause of a refusal, with its place where it has one of its own.
 pub enum Answer {
     Accepted,
@@ -92,6 +98,8 @@ pub enum Answer {
     Window(usize),
     // The tasks up to some position are of no kind that is served; the position.
     Kind(usize),
+    // A weight of a weighted table is 0 or above the limit; the task's position. Plain reading never answers it.
+    Weight(usize),
 }
 
 // The reply of reading: the answer, and the table.
@@ -122,6 +130,7 @@ impl Answer {
             Answer::Period => 5,
             Answer::Window(_) => 6,
             Answer::Kind(_) => 7,
+            Answer::Weight(_) => 16,
         }
     }
 
@@ -138,6 +147,7 @@ impl Answer {
             Answer::Period => 0,
             Answer::Window(position) => position,
             Answer::Kind(position) => position,
+            Answer::Weight(position) => position,
         }
     }
 }
@@ -353,9 +363,8 @@ fn kind_answer(releases: &[u32], deadlines: &[u32], count: usize) -> Answer
     Answer::Accepted
 }
 
-// The first of the windows in two columns that crosses an earlier one, as an answer: for readers and planners of nested tables
-// alone, which are to come; no call sends it yet.
-pub fn nesting_answer(releases: &[u32], deadlines: &[u32], count: usize) -> Answer
+// The first of the windows in two columns that crosses an earlier one, as an answer: 7 as document 01 has it, for forms of table that are nested alone.
+fn nesting_answer(releases: &[u32], deadlines: &[u32], count: usize) -> Answer
     requires { ⌜ (count ≤ length (now releases)) × (count ≤ length (now deadlines)) ⌝ }
     ensures { λ r. ⌜ r ≡ nestingAnswer (windowsLent releases deadlines) count ⌝ }
 {
@@ -366,8 +375,29 @@ pub fn nesting_answer(releases: &[u32], deadlines: &[u32], count: usize) -> Answ
     Answer::Accepted
 }
 
+// What the windows in two columns answer together with a rule of the form's own, for forms of table that are nested alone: the first window that is bad,
+// else what the own rule answers, else the first window that crosses an earlier one, else nothing refused.
+pub fn nested_answer<'a>(
+    own: Answer,
+    releases: &'a [u32],
+    deadlines: &'a [u32],
+    count: usize,
+) -> Answer
+    requires { ⌜ (count ≤ length (now releases)) × (count ≤ length (now deadlines)) ⌝ }
+    ensures { λ r. ⌜ r ≡ nestedAnswer own (windowsLent releases deadlines) count ⌝ }
+{
+    let bad = bad_window_answer(releases, deadlines, count);
+    let Answer::Accepted = bad else {
+        return bad;
+    };
+    let Answer::Accepted = own else {
+        return own;
+    };
+    nesting_answer(releases, deadlines, count)
+}
+
 // What the windows in two columns answer: the first that is bad, else the first up to which they are of neither kind, else nothing refused.
-pub fn columns_answer(releases: &[u32], deadlines: &[u32], count: usize) -> Answer
+pub fn columns_answer<'a>(releases: &'a [u32], deadlines: &'a [u32], count: usize) -> Answer
     requires { ⌜ count ≤ maxTasks ⌝ }
     requires { ⌜ (count ≤ length (now releases)) × (count ≤ length (now deadlines)) ⌝ }
     ensures { λ r. ⌜ r ≡ windowsAnswer (windowsLent releases deadlines) count ⌝ }
@@ -416,11 +446,10 @@ impl Table {
         Table::new(0, 0, 0, [NO_TASK; MAX_TASKS])
     }
 
-    // What the windows of a table answer: the first that is bad, else the first up to which they are of neither kind, else nothing refused. Their
-    // frames are put in two columns, so that the searches need not be lent the table.
-    pub fn window_answer(self) -> Answer
+    // The frames of a table's tasks in two columns, so that the searches need not be lent the table.
+    fn frames(self) -> FrameColumns
         requires { ⌜ self .count ≤ maxTasks ⌝ }
-        ensures { λ r. ⌜ r ≡ tableWindowsAnswer self ⌝ }
+        ensures { λ r. ⌜ FramesOf (taskAt self) (self .count) (r .releases) (r .deadlines) ⌝ }
     {
         let mut releases = [0u32; MAX_TASKS];
         let mut deadlines = [0u32; MAX_TASKS];
@@ -432,6 +461,32 @@ impl Table {
             deadlines[k] = task.deadline;
             k += 1;
         }
-        columns_answer(&releases, &deadlines, count)
+        FrameColumns {
+            releases,
+            deadlines,
+        }
+    }
+
+    // What the windows of a table answer: the first that is bad, else the first up to which they are of neither kind, else nothing refused.
+    pub fn window_answer(self) -> Answer
+        requires { ⌜ self .count ≤ maxTasks ⌝ }
+        ensures { λ r. ⌜ r ≡ tableWindowsAnswer self ⌝ }
+    {
+        let frames = self.frames();
+        columns_answer(&frames.releases, &frames.deadlines, self.count as usize)
+    }
+
+    // What the windows of a table answer together with a rule of the form's own, for forms of table that are nested alone.
+    pub fn nested_answer(self, own: Answer) -> Answer
+        requires { ⌜ self .count ≤ maxTasks ⌝ }
+        ensures { λ r. ⌜ r ≡ nestedAnswer own (taskAt self) (self .count) ⌝ }
+    {
+        let frames = self.frames();
+        nested_answer(
+            own,
+            &frames.releases,
+            &frames.deadlines,
+            self.count as usize,
+        )
     }
 }

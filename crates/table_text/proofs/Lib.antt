@@ -1,3 +1,4 @@
 pub mod TextSamples
+pub mod WeightedTextSamples
 pub mod TextRoundTrip
 pub mod TextLength

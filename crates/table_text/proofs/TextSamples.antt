@@ -17,8 +17,8 @@ use Rattle.table.specs.Writing.{headBits, rowsFile, fileOf, tooWide, firstTooWi
 use Rattle.lines.specs.Ascii.{ascii, textOf}
 use Rattle.lines.specs.Text.{decimalWithin, decimal, fields, line}
 use Rattle.lines.specs.Splitting.{isBlank, isDigit, withFirst, cutAt, nonempty, linesOf, wordsOf, valueAfter, valueOf, isNumber, numbersOf}
-use Rattle.table_text.specs.TableText.{lineAt, numbersAt, countInText, pInText, qInText, due, lineWrong, linesChecked, rightLines, tableInText, parseReply, headLine, taskLine, taskLines, tableText, maxTableText, aboutTask, refusedLine}
-use Rattle.table_text.specs.Conversions.{textReply, textOver, fileReply, fileOver}
+use Rattle.table_text.specs.TableText.{lineAt, numbersAt, countInText, pInText, qInText, due, lineWrong, linesChecked, rightLines, tableInText, parseReply, rowLine, rowLines, headLine, rowsText, tableText, maxTableText, aboutTask, refusedLine}
+use Rattle.table_text.specs.Conversions.{shownReply, shownOver, textReply, textOver, fileReply, fileOver}
 use Rattle.table.specs.TableSamples.{p8Table}
 use Rattle.table_text.specs.TextSamples.{TextSample, textSamples, FileSample, fileSamples, ShownSample, shownSamples, RefusedLineSample, refusedLineSamples, p8Text}
 
@@ -29,7 +29,7 @@ samples-parsed = refl
 
 -- A sample table has the text that it should.
 pub sample-printed : tableText p8Table ≡ p8Text
-unfolding textOf ascii tableText headLine taskLine taskLines line fields decimal decimalWithin tableOf taskAt places placesFrom
+unfolding textOf ascii tableText rowsText headLine rowLine rowLines line fields decimal decimalWithin tableOf taskAt places placesFrom
 sample-printed = refl
 
 -- The replies of making a file from a text, and what the list holds then.
@@ -41,7 +41,7 @@ samples-filed = (refl, refl)
 -- The replies of making a text from a file, and what the list holds then.
 pub samples-shown : (map (λ (s : ShownSample). textReply (s .file) (length (s .out))) shownSamples ≡ map (λ (s : ShownSample). s .reply) shownSamples)
     × (map (λ (s : ShownSample). textOver (s .file) (s .out)) shownSamples ≡ map (λ (s : ShownSample). s .after) shownSamples)
-unfolding shownSamples textOf ascii textReply textOver contentAfter tableText headLine taskLine taskLines line fields decimal decimalWithin readAnswer headAnswer frontAnswer paddingSet tableIn taskIn taskFrom qIn pIn countIn taskStart tableWindowsAnswer windowsAnswer kindAnswer badWindowAnswer ofNeitherKind pairwise failsEarlier similar noLater nested contains badWindow badCount fileLength tableOf taskAt noTable bytesFor field number bitAt someBelow places placesFrom lowest lowestFrom
+unfolding shownSamples textOf ascii textReply textOver shownReply shownOver contentAfter tableText rowsText headLine rowLine rowLines line fields decimal decimalWithin readAnswer headAnswer frontAnswer paddingSet tableIn taskIn taskFrom qIn pIn countIn taskStart tableWindowsAnswer windowsAnswer kindAnswer badWindowAnswer ofNeitherKind pairwise failsEarlier similar noLater nested contains badWindow badCount fileLength tableOf taskAt noTable bytesFor field number bitAt someBelow places placesFrom lowest lowestFrom
 samples-shown = (refl, refl)
 
 -- The bound on the bytes of a table's text, and the lines that refusals of writing are about.

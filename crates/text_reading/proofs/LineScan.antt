@@ -17,14 +17,14 @@ use Rattle.lines.proofs.DecimalLaws.{value-grows}
 use Rattle.lines.proofs.SplitLaws.{Plain, cut-plain, cut-over, digit-known, digit-no-blank}
 use Rattle.table_text.specs.TableText.{due, wrongAs}
 use Rattle.text_reading.specs.declared.Line.{Line}
-use Rattle.text_reading.specs.Scanning.{noLine, withFault, withDigit, withNumber, withByte, endsWrong}
+use Rattle.text_reading.specs.Scanning.{lineNumbers, noLine, withFault, withDigit, withNumber, withByte, endsWrong}
 
 -- A fault of a line stays: once a number is complete,
 bad-number : (l : Line) → l .bad ≡ true → withNumber l .bad ≡ true
 unfolding withNumber withFault
 bad-number l h =
     pick-cases (λ (r : Line). r .bad ≡ true) (l .reading)
-    (λ a. pick-cases (λ (r : Line). r .bad ≡ true) (ltb (l .seen) 4) (λ b. h) (λ b. refl)) (λ a. h)
+    (λ a. pick-cases (λ (r : Line). r .bad ≡ true) (ltb (l .seen) lineNumbers) (λ b. h) (λ b. refl)) (λ a. h)
 
 -- with a byte more,
 bad-byte : (l : Line) (byte : ℕ) → l .bad ≡ true → withByte l byte .bad ≡ true
@@ -50,7 +50,7 @@ bad-words l (word ∷ words) h = bad-words (overWord l word) words (bad-number (
 
 -- numbers, and zeros at the places of a line that are left
 abbrev padded : List ℕ → List ℕ
-padded numbers = numbers ++ replicate (4 - length numbers) 0
+padded numbers = numbers ++ replicate (lineNumbers - length numbers) 0
 
 -- a line without a fault, with some numbers; the next one is being read or not, and its value so far
 abbrev lineWith : List ℕ → Bool → ℕ → Line
@@ -91,28 +91,28 @@ word-faulty numbers reading value (byte ∷ word) plain h e =
     (λ d. bad-bytes (withByte (lineWith numbers reading value) byte) word (rw (d, plain .0)))
 
 -- the places of a line with one number more
-padded-set : (numbers : List ℕ) (value : ℕ) → length numbers < 4 → set (padded numbers) (length numbers) value ≡ padded (numbers ++ value ∷ [])
+padded-set : (numbers : List ℕ) (value : ℕ) → length numbers < lineNumbers → set (padded numbers) (length numbers) value ≡ padded (numbers ++ value ∷ [])
 padded-set numbers value h =
     let one : length (numbers ++ value ∷ []) ≡ length numbers + 1 = length-append numbers (value ∷ []) in
-    let left : 4 - length numbers ≡ suc (4 - length (numbers ++ value ∷ [])) = omega arith in
-    rw (left, set-append-seam numbers 0 (replicate (4 - length (numbers ++ value ∷ [])) 0) value, append-assoc numbers (value ∷ []) (replicate (4 - length (numbers ++ value ∷ [])) 0))
+    let left : lineNumbers - length numbers ≡ suc (lineNumbers - length (numbers ++ value ∷ [])) = omega arith in
+    rw (left, set-append-seam numbers 0 (replicate (lineNumbers - length (numbers ++ value ∷ [])) 0) value, append-assoc numbers (value ∷ []) (replicate (lineNumbers - length (numbers ++ value ∷ [])) 0))
 
 -- A number that is complete is the line's next,
-number-read : (numbers : List ℕ) (value : ℕ) → length numbers < 4 → withNumber (lineWith numbers true value) ≡ lineWith (numbers ++ value ∷ []) false 0
+number-read : (numbers : List ℕ) (value : ℕ) → length numbers < lineNumbers → withNumber (lineWith numbers true value) ≡ lineWith (numbers ++ value ∷ []) false 0
 unfolding withNumber
-number-read numbers value h = rw (lt-ltb (length numbers) 4 h, padded-set numbers value h, length-append numbers (value ∷ []))
+number-read numbers value h = rw (lt-ltb (length numbers) lineNumbers h, padded-set numbers value h, length-append numbers (value ∷ []))
 
--- and a fifth is a fault.
-number-faulty : (numbers : List ℕ) (value : ℕ) → 4 ≤ length numbers → withNumber (lineWith numbers true value) .bad ≡ true
+-- and one more than a line has room for is a fault.
+number-faulty : (numbers : List ℕ) (value : ℕ) → lineNumbers ≤ length numbers → withNumber (lineWith numbers true value) .bad ≡ true
 unfolding withNumber withFault
-number-faulty numbers value h = rw (le-ltb (length numbers) 4 h)
+number-faulty numbers value h = rw (le-ltb (length numbers) lineNumbers h)
 
 -- What a line with some numbers is after the words that followed: it holds their numbers too, or has a fault, by a word that is no number or by a
--- fifth number.
+-- number too many.
 record Read (numbers : List ℕ) (words : List (List ℕ)) (l : Line) : Type 0 where
-  right : allNumbers words ≡ true → length numbers + length words ≤ 4 → l ≡ lineWith (numbers ++ map valueOf words) false 0
+  right : allNumbers words ≡ true → length numbers + length words ≤ lineNumbers → l ≡ lineWith (numbers ++ map valueOf words) false 0
   wrong : allNumbers words ≡ false → l .bad ≡ true
-  many : 4 < length numbers + length words → l .bad ≡ true
+  many : lineNumbers < length numbers + length words → l .bad ≡ true
 
 -- a word that is a number, and there is room for it
 word-right : (numbers word : List ℕ) (words : List (List ℕ)) (l : Line) → isNumber word ≡ true → Read (numbers ++ valueOf word ∷ []) words l → Read numbers (word ∷ words) l
@@ -126,7 +126,7 @@ word-right numbers word words l e h =
     }
 
 -- a word that is none, or for which there is no room
-word-wrong : (numbers word : List ℕ) (words : List (List ℕ)) (l : Line) → (isNumber word ≡ true → 4 ≤ length numbers) → l .bad ≡ true
+word-wrong : (numbers word : List ℕ) (words : List (List ℕ)) (l : Line) → (isNumber word ≡ true → lineNumbers ≤ length numbers) → l .bad ≡ true
     → Read numbers (word ∷ words) l
 unfolding everyMember
 word-wrong numbers word words l h e =
@@ -152,7 +152,7 @@ unfolding isNumber valueOf
 wrong-over numbers word plain e = bad-number _ (word-faulty numbers false 0 word plain (omega arith) e)
 
 -- over the pieces between blanks
-words-read : (numbers : List ℕ) (pieces : List (List ℕ)) → length numbers ≤ 4 → All (Plain isBlank) pieces
+words-read : (numbers : List ℕ) (pieces : List (List ℕ)) → length numbers ≤ lineNumbers → All (Plain isBlank) pieces
     → Read numbers (nonempty pieces) (foldl overWord (lineWith numbers false 0) pieces)
 unfolding nonempty everyMember withNumber
 words-read numbers [] h plain =
@@ -162,7 +162,7 @@ words-read numbers ((byte ∷ bytes) ∷ pieces) h plain =
     cases (isNumber (byte ∷ bytes))
     (λ e.
     let value : ℕ = valueOf (byte ∷ bytes) in
-    elim (decLe 4 (length numbers)) [
+    elim (decLe lineNumbers (length numbers)) [
       | yes full ↦
           word-wrong numbers (byte ∷ bytes) (nonempty pieces) _ (λ a. full)
           (bad-words (overWord (lineWith numbers false 0) (byte ∷ bytes)) pieces (rw (number-over numbers byte bytes e) (number-faulty numbers value full)))
@@ -188,38 +188,6 @@ line-read : (line : List ℕ) → Read [] (wordsOf line) (ended line)
 unfolding wordsOf noLine
 line-read line = rw (cut-over withByte withNumber isBlank blank-ends noLine line) (words-read [] (cutAt isBlank line) (omega arith) (cut-plain isBlank line))
 
--- no line has more than four numbers due
-due-few : (k count : ℕ) → due k count ≤ 4
-unfolding due
-due-few k count =
-    pick-cases (λ n. n ≤ 4) (leb k 1) (λ a. omega arith)
-    (λ a. pick-cases (λ n. n ≤ 4) (leb k (count + 1)) (λ b. omega arith) (λ b. omega arith))
-
-module _ (k count : ℕ) (line : List ℕ) where
-  -- a line that has a fault, and is wrong
-  faulty-wrong : ended line .bad ≡ true → wrongAs k count line ≡ true → endsWrong k count (ended line) ≡ wrongAs k count line
-  unfolding endsWrong
-  faulty-wrong e h = rw (e, h)
-
-  -- a line with more than four words is wrong
-  many-wrong : 4 < length (wordsOf line) → wrongAs k count line ≡ true
-  unfolding numbersOf
-  many-wrong m =
-      let few : due k count ≤ 4 = due-few k count in
-      rw (ne-eqb (length (numbersOf line)) (due k count) (λ e. omega (arith, length-map (wordsOf line) valueOf))) (or-true (not (allNumbers (wordsOf line))))
-
--- A line that was read ends wrong exactly where it is wrong,
-pub line-wrong : (k count : ℕ) (line : List ℕ) → endsWrong k count (ended line) ≡ wrongAs k count line
-unfolding endsWrong numbersOf
-line-wrong k count line =
-    cases (allNumbers (wordsOf line))
-    (λ a.
-    elim (decLe (length (wordsOf line)) 4) [
-      | yes few ↦ rw (line-read line .right a (omega arith), a)
-      | no more ↦ faulty-wrong k count line (line-read line .many (omega arith)) (many-wrong k count line (omega arith))
-    ])
-    (λ a. faulty-wrong k count line (line-read line .wrong a) (rw a))
-
 -- zeros at the end change no number
 padded-at : (numbers : List ℕ) (n i : ℕ) → getD (numbers ++ replicate n 0) i 0 ≡ getD numbers i 0
 padded-at [] zero i = refl
@@ -228,13 +196,49 @@ padded-at [] (suc n) (suc i) = padded-at [] n i
 padded-at (number ∷ numbers) n zero = refl
 padded-at (number ∷ numbers) n (suc i) = padded-at numbers n i
 
--- and else holds its numbers.
-pub line-numbers : (k count : ℕ) (line : List ℕ) → wrongAs k count line ≡ false → (i : ℕ) → getD (ended line .numbers) i 0 ≡ getD (numbersOf line) i 0
-unfolding numbersOf
-line-numbers k count line e i =
-    elim (decLe (length (wordsOf line)) 4) [
-      | yes few ↦
-          rw (line-read line .right (not-false (allNumbers (wordsOf line)) (or-left (not (allNumbers (wordsOf line))) (not (eqb (length (numbersOf line)) (due k count))) e)) (omega arith))
-          (padded-at (numbersOf line) (4 - length (numbersOf line)) i)
-      | no more ↦ both-absurd (wrongAs k count line) (many-wrong k count line (omega arith)) e
-    ]
+-- Where the line of a task has `width` numbers, as many as a line has room for.
+module _ (width : ℕ) (fits : width ≤ lineNumbers) where
+  -- no line has more numbers due
+  due-few : (k count : ℕ) → due width k count ≤ lineNumbers
+  unfolding due
+  due-few k count =
+      pick-cases (λ n. n ≤ lineNumbers) (leb k 1) (λ a. omega arith)
+      (λ a. pick-cases (λ n. n ≤ lineNumbers) (leb k (count + 1)) (λ b. omega arith) (λ b. omega arith))
+
+  module _ (k count : ℕ) (line : List ℕ) where
+    -- a line that has a fault, and is wrong
+    faulty-wrong : ended line .bad ≡ true → wrongAs width k count line ≡ true → endsWrong width k count (ended line) ≡ wrongAs width k count line
+    unfolding endsWrong
+    faulty-wrong e h = rw (e, h)
+
+    -- a line with more words is wrong
+    many-wrong : lineNumbers < length (wordsOf line) → wrongAs width k count line ≡ true
+    unfolding numbersOf
+    many-wrong m =
+        let few : due width k count ≤ lineNumbers = due-few k count in
+        rw (ne-eqb (length (numbersOf line)) (due width k count) (λ e. omega (arith, length-map (wordsOf line) valueOf)))
+        (or-true (not (allNumbers (wordsOf line))))
+
+  -- A line that was read ends wrong exactly where it is wrong,
+  pub line-wrong : (k count : ℕ) (line : List ℕ) → endsWrong width k count (ended line) ≡ wrongAs width k count line
+  unfolding endsWrong numbersOf
+  line-wrong k count line =
+      cases (allNumbers (wordsOf line))
+      (λ a.
+      elim (decLe (length (wordsOf line)) lineNumbers) [
+        | yes few ↦ rw (line-read line .right a (omega arith), a)
+        | no more ↦ faulty-wrong k count line (line-read line .many (omega arith)) (many-wrong k count line (omega arith))
+      ])
+      (λ a. faulty-wrong k count line (line-read line .wrong a) (rw a))
+
+  -- and else holds its numbers.
+  pub line-numbers : (k count : ℕ) (line : List ℕ) → wrongAs width k count line ≡ false → (i : ℕ)
+      → getD (ended line .numbers) i 0 ≡ getD (numbersOf line) i 0
+  unfolding numbersOf
+  line-numbers k count line e i =
+      elim (decLe (length (wordsOf line)) lineNumbers) [
+        | yes few ↦
+            rw (line-read line .right (not-false (allNumbers (wordsOf line)) (or-left (not (allNumbers (wordsOf line))) (not (eqb (length (numbersOf line)) (due width k count))) e)) (omega arith))
+            (padded-at (numbersOf line) (lineNumbers - length (numbersOf line)) i)
+        | no more ↦ both-absurd (wrongAs width k count line) (many-wrong k count line (omega arith)) e
+      ]

@@ -9,6 +9,8 @@
 // A line that starts with `into` has a file and how many bytes the list has in which it is shown as text; what is printed is the reply's number, place and
 // bytes, whether the list is kept beyond them, and the text. A line that starts with `out` has a text that is made into a file; what is printed is the first
 // wrong line, how many numbers are due there, and then writing's reply in the same way.
+//
+// A line that starts with `Weighted`, `Into` or `Out` is the same of a weighted table; behind the tasks of a text the weights at those places are printed.
 mod conversions;
 
 ghost use Rattle.io.specs.Counts.{Counts};
@@ -16,6 +18,7 @@ use libc::STDIN_FILENO;
 use table::Table;
 use table::Task;
 use table_text::Parsed;
+use table_text::WeightedParsed;
 
 // What the byte behind a backslash stands for.
 fn escaped(byte: u8) -> u8 {
@@ -72,21 +75,43 @@ fn show_tasks(table: Table) {
     show_task(tasks[63]);
 }
 
-// Prints what a text gives.
-fn show(parsed: Parsed) {
-    let table = parsed.table;
+// Prints what a text gives: the wrong line, the numbers due there, the table.
+fn show_table(line: usize, due: usize, table: Table) {
     cases::show(
         b" # #, # # #",
         &[
-            parsed.line as u64,
-            parsed.due as u64,
+            line as u64,
+            due as u64,
             table.count as u64,
             table.p as u64,
             table.q as u64,
         ],
     );
     show_tasks(table);
+}
+
+// Prints what the text of a plain table gives.
+fn show(parsed: Parsed) {
+    let table = parsed.table;
+    show_table(parsed.line, parsed.due, table);
     cases::text(b"\n");
+}
+
+// Prints what the text of a weighted table gives.
+fn show_weighted(parsed: WeightedParsed) {
+    let weighted = parsed.weighted;
+    let table = weighted.table;
+    let weights = weighted.weights;
+    show_table(parsed.line, parsed.due, table);
+    cases::show(
+        b"; # # # #\n",
+        &[
+            weights[0] as u64,
+            weights[1] as u64,
+            weights[2] as u64,
+            weights[63] as u64,
+        ],
+    );
 }
 
 // Prints the line that a refusal of writing is about.
@@ -95,6 +120,16 @@ fn refusal(line: &[u8]) {
     let place = cases::number(line, 2) as usize;
     let about = text_reading::refused_line(number, place);
     cases::show(b" line #\n", &[about as u64]);
+}
+
+// The case of a text, on a line that starts with a given byte.
+fn text_case(start: u8, text: &[u8]) {
+    match start {
+        b'o' => conversions::out_of_text(text),
+        b'O' => conversions::out_of_weighted_text(text),
+        b'W' => show_weighted(text_reading::parse_weighted(text)),
+        _ => show(text_reading::parse(text)),
+    }
 }
 
 // The case on a line that starts with a given byte.
@@ -111,14 +146,14 @@ fn case(start: u8, line: &[u8]) {
         conversions::into_text(line);
         return;
     }
+    if start == b'I' {
+        conversions::into_weighted_text(line);
+        return;
+    }
     let mut text = [0u8; 600];
     let behind = cases::start_of(line, 1);
     let length = unescape(&line[behind..], &mut text);
-    if start == b'o' {
-        conversions::out_of_text(&text[..length]);
-        return;
-    }
-    show(text_reading::parse(&text[..length]));
+    text_case(start, &text[..length]);
 }
 
 // The cases of a text, line by line.

@@ -4,7 +4,9 @@ use native.Mathlib.Omega.{arith}
 use borrow.Author.Needs.{needs}
 use Rattle.base.specs.Arrays.{firstPlaces}
 use Rattle.schedule.specs.JobArrays.{noJob}
-use Rattle.choice.proofs.BuildLaws.{outermost-small, most-best, Gives, best-gives}
+use Rattle.choice.specs.Choice.{countOne}
+use Rattle.choice.specs.Decisions.{rowOf, Last}
+use Rattle.choice.proofs.BuildLaws.{outermost-small, reaches-last, Gives, last-gives}
 use Rattle.choosing.proofs.choose.Statement.{statement}
 use Rattle.choosing.proofs.choose.Tie as tie
 
@@ -19,12 +21,17 @@ rows-of-requires c κs =
     let pre = c .before .before .pre in
     (pre .0, (pre .1 .0, (pre .1 .1, (refl, refl))))
 
--- the most parts that a list keeps give the chosen list
+-- the row is below huge at the most parts last
+last : (c : tie.After-rows-of)
+    → Last (rowOf (firstPlaces noJob (c .before .before .before .args .jobs) (c .before .before .before .args .count))) (c .rows-of .result .most)
+last c = reaches-last _ _ (c .rows-of .ensures .1)
+
+-- so they give the chosen list
 found : (c : tie.After-rows-of)
-    → Gives (firstPlaces noJob (c .before .before .before .args .jobs) (c .before .before .before .args .count)) (c .rows-of .result .most)
+    → Gives countOne (firstPlaces noJob (c .before .before .before .args .jobs) (c .before .before .before .args .count)) (c .rows-of .result .most)
 found c =
     let pre = c .before .before .before .pre in
-    best-gives _ _ (outermost-small _ _ (pre .1 .0)) (pre .1 .1) (most-best _ _ (c .rows-of .ensures .1))
+    last-gives _ _ _ (outermost-small _ _ (pre .1 .0)) (pre .1 .1) (last c)
 
 slice-aggregate-read-back : tie.Need-slice-aggregate-read-back
 slice-aggregate-read-back c = search needs
@@ -33,7 +40,7 @@ read-back-requires : tie.Need-read-back-requires
 read-back-requires c κs =
     let called = c .before .before .before in
     let rows = called .rows-of .ensures in
-    (called .before .before .before .pre .0, (rows .3, (search needs, (rows .0, found called .below))))
+    (called .before .before .before .pre .0, (rows .3, (search needs, (rows .0, last called .below))))
 
 cast-t14 : tie.Need-cast-t14
 cast-t14 c = search needs

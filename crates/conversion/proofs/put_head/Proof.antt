@@ -1,7 +1,7 @@
 -- `conversion::put_head` meets its contract.
 use native.Mathlib.Omega.{arith}
 use borrow.Author.Needs.{needs}
-use Rattle.table_text.specs.TableText.{headLine}
+use Rattle.table_text.specs.TableText.{rowLine, headLine}
 use Rattle.conversion.proofs.put_head.Statement.{statement}
 use Rattle.conversion.proofs.put_head.Tie as tie
 
@@ -18,14 +18,14 @@ slice-aggregate-put-numbers : tie.Need-slice-aggregate-put-numbers
 slice-aggregate-put-numbers c = search needs
 
 put-numbers-requires : tie.Need-put-numbers-requires
-unfolding headLine
+unfolding headLine rowLine
 put-numbers-requires c κs = omega (arith, c .before .before .before .before .before .before .pre)
 
 same-length : tie.Need-same-length
 same-length c = search needs
 
 returns : tie.Need-returns
-unfolding headLine
+unfolding headLine rowLine
 returns c = c .before .before .put-numbers .ensures
 
 pub put-head-spec : {M : Type 1} → statement M

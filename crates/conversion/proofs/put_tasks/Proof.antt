@@ -4,27 +4,32 @@ use mathlib.Core.List.{List, _++_}
 use native.Mathlib.Omega.{arith}
 use Rattle.base.specs.Places.{places}
 use Rattle.table.specs.Tables.{taskAt}
-use Rattle.table_text.specs.TableText.{taskLine, taskLines}
+use Rattle.weighted_file.specs.Weights.{weightAt}
+use Rattle.table_text.specs.TableText.{rowLine, rowLines}
 use Rattle.lines.proofs.PutLaws.{Putting, putting-start, putting-room, putting-fits, putting-step, putting-end}
+use Rattle.conversion.specs.Showing.{shownRow}
 use Rattle.conversion.proofs.TaskLines.{tasksLeft, tasks-start, tasks-step, tasks-end}
 use Rattle.conversion.proofs.put_tasks.Statement.{statement}
 use Rattle.conversion.proofs.put_tasks.Tie as tie
 
 abbrev Inv-loop : tie.InvT-loop
-Inv-loop out₀ at table count next₀ i₀ out next i =
-    (i ≤ table .count) × Putting (taskLines (places (taskAt table) (table .count))) at out₀ (tasksLeft table i) next out
+Inv-loop out₀ at width weighted table count next₀ i₀ out next i =
+    (i ≤ weighted .table .count)
+    × Putting (rowLines (places (shownRow width weighted) (weighted .table .count))) at out₀ (tasksLeft (shownRow width weighted) (weighted .table .count) i) next out
 
 abbrev μ-loop : tie.MeasureT-loop
-μ-loop out₀ at table count next₀ i₀ out next i = table .count - i
+μ-loop out₀ at width weighted table count next₀ i₀ out next i = weighted .table .count - i
 
 cast-count : tie.Need-cast-count Inv-loop μ-loop
 cast-count c = omega arith
 
 loop-holds : tie.Need-loop-holds Inv-loop μ-loop
 loop-holds c =
-    let start = c .before in
+    let start = c .before .before in
     let a = start .args in
-    (omega arith, rw (← tasks-start (a .t3)) (putting-start (taskLines (places (taskAt (a .t3)) (a .t3 .count))) (a .at) (a .out .now) (start .pre .1)))
+    let row = shownRow (a .width) (a .t3) in
+    let count = a .t3 .table .count in
+    (omega arith, rw (← tasks-start row count) (putting-start (rowLines (places row count)) (a .at) (a .out .now) (start .pre .1 .1)))
 
 mul-task : tie.Need-mul-task Inv-loop μ-loop
 mul-task c = omega arith
@@ -32,21 +37,29 @@ mul-task c = omega arith
 element-copy-out-task : tie.Need-element-copy-out-task Inv-loop μ-loop
 element-copy-out-task c = omega arith
 
+mul-weight : tie.Need-mul-weight Inv-loop μ-loop
+mul-weight c = omega arith
+
+element-copy-out-weight : tie.Need-element-copy-out-weight Inv-loop μ-loop
+element-copy-out-weight c = omega arith
+
 -- the line of the next task stands first in what is left
-abbrev next : tie.In-loop Inv-loop μ-loop → List ℕ
-next c = taskLine (taskAt (c .before .before .before .args .t3) (c .before .loop .i))
+abbrev row : tie.In-loop Inv-loop μ-loop → ℕ → List ℕ
+row c = shownRow (c .before .before .before .before .args .width) (c .before .before .before .before .args .t3)
+
+abbrev total : tie.In-loop Inv-loop μ-loop → ℕ
+total c = c .before .before .before .before .args .t3 .table .count
 
 next-line : (c : tie.In-loop Inv-loop μ-loop)
-    → Putting (taskLines (places (taskAt (c .before .before .before .args .t3)) (c .before .before .before .args .t3 .count)))
-    (c .before .before .before .args .at) (c .before .before .before .args .out .now)
-    (next c ++ tasksLeft (c .before .before .before .args .t3) (c .before .loop .i + 1)) (c .before .loop .next) (c .before .loop .out)
-next-line c = rw (tasks-step (c .before .before .before .args .t3) (c .before .loop .i) (c .loop-test .taken)) at (c .before .loop .inv .1)
+    → Putting (rowLines (places (row c) (total c))) (c .before .before .before .before .args .at) (c .before .before .before .before .args .out .now)
+    (rowLine (row c (c .before .loop .i)) ++ tasksLeft (row c) (total c) (c .before .loop .i + 1)) (c .before .loop .next) (c .before .loop .out)
+next-line c = rw (tasks-step (row c) (total c) (c .before .loop .i) (c .loop-test .taken)) at (c .before .loop .inv .1)
 
 put-task-requires : tie.Need-put-task-requires Inv-loop μ-loop
-unfolding taskAt
+unfolding shownRow taskAt weightAt
 put-task-requires c κs =
-    let inside = c .before .before in
-    putting-fits _ _ _ (inside .before .before .before .pre .1) (next inside) _ _ _ (next-line inside)
+    let inside = c .before .before .before in
+    (inside .before .before .before .before .pre .0, putting-fits _ _ _ (inside .before .before .before .before .pre .1 .1) (rowLine (row inside (inside .before .loop .i))) _ _ _ (next-line inside))
 
 add-i : tie.Need-add-i Inv-loop μ-loop
 add-i c = omega arith
@@ -55,18 +68,19 @@ loop-less : tie.Need-loop-less Inv-loop μ-loop
 loop-less c = omega arith
 
 loop-again : tie.Need-loop-again Inv-loop μ-loop
-unfolding taskAt
+unfolding shownRow taskAt weightAt
 loop-again c =
-    let inside = c .before .before .before .before .before in
-    (omega arith, putting-step _ _ _ (inside .before .before .before .pre .1) _ _ _ _ _ _ (next-line inside) (c .before .before .put-task .ensures))
+    let inside = c .before .before .before .before .before .before in
+    (omega arith, putting-step _ _ _ (inside .before .before .before .before .pre .1 .1) _ _ _ _ _ _ (next-line inside) (c .before .before .put-task .ensures))
 
 same-length : tie.Need-same-length Inv-loop μ-loop
-same-length c = putting-room _ _ _ (c .before .before .before .pre .1) _ _ _ (c .before .loop .inv .1) .0
+same-length c = putting-room _ _ _ (c .before .before .before .before .pre .1 .1) _ _ _ (c .before .loop .inv .1) .0
 
 returns : tie.Need-returns Inv-loop μ-loop
 returns c =
-    let start = c .before .before .before in
-    putting-end _ _ _ (start .pre .1) _ _ (rw (tasks-end (start .args .t3) (c .before .loop .i) (c .loop-test .left)) at (c .before .loop .inv .1))
+    let start = c .before .before .before .before in
+    let row = shownRow (start .args .width) (start .args .t3) in
+    putting-end _ _ _ (start .pre .1 .1) _ _ (rw (tasks-end row (start .args .t3 .table .count) (c .before .loop .i) (c .loop-test .left)) at (c .before .loop .inv .1))
 
 pub put-tasks-spec : {M : Type 1} → statement M
 put-tasks-spec =
@@ -78,6 +92,8 @@ put-tasks-spec =
     loop-holds
     mul-task
     element-copy-out-task
+    mul-weight
+    element-copy-out-weight
     put-task-requires
     add-i
     loop-less

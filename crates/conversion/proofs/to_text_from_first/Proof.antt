@@ -7,8 +7,9 @@ use lib.ListN.{take}
 use lib.Seq.{length-take-le}
 use Rattle.bits.specs.Bits.{bytesFor}
 use Rattle.table.specs.Layout.{fileLength}
+use Rattle.table_text.specs.Conversions.{textReply}
 use Rattle.table.proofs.PrefixLaws.{first-taken}
-use Rattle.conversion.proofs.TextReplies.{held-shown, text-fits}
+use Rattle.conversion.proofs.TextReplies.{plainForm, held-shown, text-fits}
 use Rattle.conversion.proofs.to_text_from_first.Statement.{statement}
 use Rattle.conversion.proofs.to_text_from_first.Tie as tie
 
@@ -30,14 +31,14 @@ part-is c =
     ap (λ (n : ℕ). take n (c .before .args .t1)) (c .bytes-read .ensures) ∙ first-taken _ (c .before .args .t1) (c .before .args .filled) (omega arith)
 
 returns : tie.Need-returns
-unfolding fileLength bytesFor
+unfolding textReply fileLength bytesFor
 returns c =
     let part = c .before .before .before in
     let start = part .before in (
       λ input h.
           held-shown (start .args .t1) (start .args .filled) input _ _ _ (rw (part-is part) at (c .to-text .ensures .0))
           (rw (part-is part) at (c .to-text .ensures .1 .0)) (rw (part-is part) at (c .to-text .ensures .1 .1)) h,
-      (omega arith, omega (arith, text-fits _ _ _ (c .to-text .ensures .0))),
+      (omega arith, omega (arith, text-fits plainForm _ _ _ (c .to-text .ensures .0))),
     )
 
 pub to-text-from-first-spec : {M : Type 1} → statement M

@@ -2,8 +2,11 @@
 use mathlib.Core.Path.{_≡_}
 use base.Logic.{emp}
 use contract.Monad.{fact, factI}
+use Rattle.table.specs.Reading.{plainRead}
 use Rattle.schedule.specs.Judging.{judgeReply}
 use Rattle.judging.proofs.JudgeCalls.{judge-met}
+use Rattle.judging.proofs.judge_copied.Symbol as h-def
+use Rattle.judging.proofs.judge_copied.Met as h-thm
 use Rattle.exports.proofs.planner_judge.Key.{name as #key}
 use Rattle.exports.proofs.planner_judge.Statement as stated
 use Rattle.exports.proofs.planner_judge.Code as code
@@ -11,6 +14,6 @@ use Rattle.exports.proofs.planner_judge.Code as code
 pub planner-judge-spec : {M : Type 1} → stated.statement M
 unfolding code.routine
 planner-judge-spec 𝓤 H 𝓜 𝓖 𝓡 =
-    judge-met 𝓤 H 𝓜 𝓖 𝓡 (λ launch file marks runs r. fact 𝓤 (r ≡ judgeReply launch file marks runs))
-    (λ launch file marks runs r. factI 𝓤 (r ≡ judgeReply launch file marks runs) (emp 𝓤))
-    code.env code.calls-records·columns-of code.calls-judging·judge-copied #key (code.unfolded 𝓤 H 𝓜 𝓡)
+    judge-met plainRead 𝓤 H 𝓜 𝓖 𝓡 (λ launch file marks runs r. fact 𝓤 (r ≡ judgeReply launch (plainRead file) marks runs))
+    (λ launch file marks runs r. factI 𝓤 (r ≡ judgeReply launch (plainRead file) marks runs) (emp 𝓤))
+    code.env code.calls-records·columns-of h-def.name h-def.routine code.calls-judging·judge-copied (h-thm.met 𝓤 H 𝓜 𝓖 𝓡) #key (code.unfolded 𝓤 H 𝓜 𝓡)

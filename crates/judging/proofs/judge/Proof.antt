@@ -2,10 +2,13 @@
 use base.Logic.{sep}
 use contract.Monad.{fact}
 use mathlib.Core.Path.{_≡_}
+use Rattle.table.specs.Reading.{plainRead}
 use Rattle.schedule.specs.Judging.{judgeReply, Sound}
 use Rattle.schedule.proofs.VerdictLaws.{sound-of}
 use Rattle.records.proofs.Walking.{both-so}
 use Rattle.judging.proofs.JudgeCalls.{judge-met}
+use Rattle.judging.proofs.judge_copied.Symbol as h-def
+use Rattle.judging.proofs.judge_copied.Met as h-thm
 use Rattle.judging.proofs.judge.Key.{name as #key}
 use Rattle.judging.proofs.judge.Statement as stated
 use Rattle.judging.proofs.judge.Code as code
@@ -13,8 +16,8 @@ use Rattle.judging.proofs.judge.Code as code
 pub judge-spec : {M : Type 1} → stated.statement M
 unfolding code.routine
 judge-spec 𝓤 H 𝓜 𝓖 𝓡 =
-    judge-met 𝓤 H 𝓜 𝓖 𝓡
-    (λ launch file marks runs r. sep 𝓤 (fact 𝓤 (r ≡ judgeReply launch file marks runs)) (fact 𝓤 (Sound launch file marks runs r)))
-    (λ launch file marks runs r e. both-so 𝓤 (r ≡ judgeReply launch file marks runs) (Sound launch file marks runs r) e
-    (sound-of launch file marks runs r e))
-    code.env code.calls-records·columns-of code.calls-judging·judge-copied #key (code.unfolded 𝓤 H 𝓜 𝓡)
+    judge-met plainRead 𝓤 H 𝓜 𝓖 𝓡
+    (λ launch file marks runs r. sep 𝓤 (fact 𝓤 (r ≡ judgeReply launch (plainRead file) marks runs)) (fact 𝓤 (Sound launch (plainRead file) marks runs r)))
+    (λ launch file marks runs r e. both-so 𝓤 (r ≡ judgeReply launch (plainRead file) marks runs) (Sound launch (plainRead file) marks runs r) e
+    (sound-of launch (plainRead file) marks runs r e))
+    code.env code.calls-records·columns-of h-def.name h-def.routine code.calls-judging·judge-copied (h-thm.met 𝓤 H 𝓜 𝓖 𝓡) #key (code.unfolded 𝓤 H 𝓜 𝓡)

@@ -4,7 +4,7 @@ use borrow.Author.Needs.{needs}
 use Rattle.table.specs.declared.Table.{Table}
 use Rattle.table.specs.declared.Answer.the-variants.{Accepted}
 use Rattle.table.specs.Answers.{numberOf, placeOf, isAccepted}
-use Rattle.table.specs.Reading.{tableIn, readAnswer}
+use Rattle.table.specs.Reading.{plainRead, tableIn, readAnswer}
 use Rattle.table.specs.Writing.{Legal}
 use Rattle.table.proofs.AnswerLaws.{told-refused}
 use Rattle.table.proofs.RoundTrip.{read-legal, read-answer, read-is}
@@ -38,17 +38,28 @@ declined-requires c κs = search needs
 
 returns : tie.Need-returns
 returns c =
-    let answer = read-answer (c .before .before .before .before .before .before .before .before .before .before .args .file .now) _ (c .before .before .before .before .read .ensures) in
-    let bad = ap isAccepted (sym answer) ∙ told-refused (c .before .before .before .before .read .result .answer) (c .before .before .before .match .keys2) in
-    c .declined .ensures ∙ (ap₂ judgeDeclined (c .before .before .number .ensures ∙ ap numberOf answer) (c .before .place .ensures ∙ ap placeOf answer) ∙ read-refused (c .before .before .before .before .before .before .before .before .before .before .args .launch) (c .before .before .before .before .before .before .before .before .before .before .args .file .now) (c .before .before .before .before .before .before .before .before .before .before .args .marks .now) (runsOf (c .before .before .before .before .before .before .before .before .before .before .args .starts .now) (c .before .before .before .before .before .before .before .before .before .before .args .ends .now) (c .before .before .before .before .before .before .before .before .before .before .args .tasks .now)) bad)
+    let read = c .before .before .before .before in
+    let start = read .before .before .before .before .before .before in
+    let answer = read-answer (start .args .file .now) _ (read .read .ensures) in
+    let bad = ap isAccepted (sym answer) ∙ told-refused (read .read .result .answer) (c .before .before .before .match .keys2) in
+    c .declined .ensures
+    ∙ (ap₂ judgeDeclined (c .before .before .number .ensures ∙ ap numberOf answer) (c .before .place .ensures ∙ ap placeOf answer)
+    ∙ read-refused (start .args .launch) (plainRead (start .args .file .now)) (start .args .marks .now)
+    (runsOf (start .args .starts .now) (start .args .ends .now) (start .args .tasks .now)) bad)
 
 judge-table-requires : tie.Need-judge-table-requires
-judge-table-requires c κs = (subst Legal (sym (table-is (c .before))) (read-legal (c .before .before .before .before .before .before .before .before .before .args .file .now) (accepted (c .before))), c .before .before .before .before .before .before .before .before .before .pre)
+judge-table-requires c κs =
+    let start = c .before .before .before .before .before .before .before .before .before in
+    (subst Legal (sym (table-is (c .before))) (read-legal (start .args .file .now) (accepted (c .before))), start .pre)
 
 returns-2 : tie.Need-returns-2
 returns-2 c =
-    let same = ap (λ (t : Table). judgeTable (c .before .before .before .before .before .before .before .before .before .before .args .launch) t (c .before .before .before .before .before .before .before .before .before .before .args .marks .now) (runsOf (c .before .before .before .before .before .before .before .before .before .before .args .starts .now) (c .before .before .before .before .before .before .before .before .before .before .args .ends .now) (c .before .before .before .before .before .before .before .before .before .before .args .tasks .now))) (table-is (c .before .before)) in
-    c .judge-table .ensures ∙ (same ∙ read-accepted (c .before .before .before .before .before .before .before .before .before .before .args .launch) (c .before .before .before .before .before .before .before .before .before .before .args .file .now) (c .before .before .before .before .before .before .before .before .before .before .args .marks .now) (runsOf (c .before .before .before .before .before .before .before .before .before .before .args .starts .now) (c .before .before .before .before .before .before .before .before .before .before .args .ends .now) (c .before .before .before .before .before .before .before .before .before .before .args .tasks .now)) (accepted (c .before .before)))
+    let told = c .before .before in
+    let start = told .before .before .before .before .before .before .before .before in
+    let runs = runsOf (start .args .starts .now) (start .args .ends .now) (start .args .tasks .now) in
+    c .judge-table .ensures
+    ∙ (ap (λ (t : Table). judgeTable (start .args .launch) t (start .args .marks .now) runs) (table-is told)
+    ∙ read-accepted (start .args .launch) (plainRead (start .args .file .now)) (start .args .marks .now) runs (accepted told))
 
 pub judge-columns-spec : {M : Type 1} → statement M
 judge-columns-spec =

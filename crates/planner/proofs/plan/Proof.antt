@@ -1,5 +1,8 @@
 -- `planner::plan` meets its contract: the demands follow from the reply and from what the lists hold.
 use borrow.Author.Needs.{needs}
+use Rattle.table.specs.Reading.{plainRead}
+use Rattle.table.proofs.RoundTrip.{read-legal}
+use Rattle.plans.proofs.ReplyLaws.{Replied, reply-optimal}
 use Rattle.plans.proofs.CallLaws.{call-clauses}
 use Rattle.planner.proofs.plan.Statement.{statement}
 use Rattle.planner.proofs.plan.Tie as tie
@@ -24,10 +27,13 @@ returns c =
     let counted = c .before .before .before .before .before .before .before .before .before in
     let start = counted .before .before .before .before .before .before .before .before .before .before in
     let made = counted .plan-counted in
-    call-clauses (start .args .launch) (start .args .file .now) (made .result .reply)
+    let file = start .args .file .now in
+    let replied : Replied (start .args .launch) (plainRead file) (made .result .reply)
     (record { marks = start .args .marks .now; starts = start .args .starts .now; ends = start .args .ends .now; tasks = start .args .tasks .now })
-    (record { marks = made .last .1 .1 .0; starts = made .last .1 .1 .1 .0; ends = made .last .1 .1 .1 .1 .0; tasks = made .last .1 .1 .1 .1 .1 .0 })
-    (record { reply-is = made .ensures .1 .0; lists-are = made .ensures .1 .1 })
+    (record { marks = made .last .1 .1 .0; starts = made .last .1 .1 .1 .0; ends = made .last .1 .1 .1 .1 .0; tasks = made .last .1 .1 .1 .1 .1 .0 }) =
+    record { lawful = read-legal file; reply-is = made .ensures .1 .0; lists-are = made .ensures .1 .1 } in
+    call-clauses (start .args .launch) (plainRead file) (made .result .reply) _ _ replied _
+    (reply-optimal (start .args .launch) file (made .result .reply) _ _ replied)
 
 pub plan-spec : {M : Type 1} → statement M
 plan-spec =

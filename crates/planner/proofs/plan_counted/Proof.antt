@@ -14,7 +14,7 @@ use Rattle.table.specs.declared.Answer.the-variants.{Accepted}
 use Rattle.table.specs.Tables.{noTable}
 use Rattle.table.specs.Answers.{numberOf, placeOf, isAccepted}
 use Rattle.table.specs.Kinds.{isNested, isSimilar, tableWindowsAnswer}
-use Rattle.table.specs.Reading.{tableIn, readAnswer, readReply}
+use Rattle.table.specs.Reading.{oneEach, plainRead, tableIn, readAnswer, readReply}
 use Rattle.table.specs.Writing.{Legal}
 use Rattle.table.proofs.AnswerLaws.{told-refused, refused-number}
 use Rattle.table.proofs.RoundTrip.{read-legal}
@@ -23,7 +23,7 @@ use Rattle.reading.proofs.ReadLaws.{table-refused, table-accepted}
 use Rattle.orders.specs.Keys.{HasKeys}
 use Rattle.reading.proofs.AnyKindLaws.{any-kind-answer, any-kind-in, any-kind-refused, any-kind-table, any-kind-served, any-kind-neither}
 use Rattle.plans.specs.declared.Planned.{Planned}
-use Rattle.plans.specs.Planning.{LentLists, planDeclined, planTable, planReply, listsAfter}
+use Rattle.plans.specs.Planning.{LentLists, planDeclined, planTable, planReply, listsAfter, listsLeft}
 use Rattle.plans.proofs.ReplyLaws.{table-kept, file-refused, file-accepted}
 use Rattle.planner.specs.declared.Counted.{Counted}
 use Rattle.planner.proofs.plan_counted.Statement.{statement}
@@ -63,14 +63,15 @@ lent c = record { marks = c .args .marks .now; starts = c .args .starts .now; en
 -- what a refusal of reading gives
 refusal : (launch : ℕ) (file : List ℕ) (lists : LentLists) (answer : Answer) (r : Counted) → answer ≡ readAnswer file → isAccepted (readAnswer file) ≡ false
     → (r .count ≡ 0) × (r .reply ≡ planDeclined (numberOf answer) (placeOf answer))
-    → (r .count ≡ readReply file .table .count) × ((r .reply ≡ planReply launch file lists) × (lists ≡ listsAfter launch (tableIn file) (r .reply) lists))
+    → (r .count ≡ readReply file .table .count)
+    × ((r .reply ≡ planReply launch (plainRead file) lists) × (lists ≡ listsLeft launch (plainRead file) (r .reply) lists))
 unfolding noTable
 refusal launch file lists answer r same bad is =
     let says = is .1 ∙ ap (λ (a : Answer). planDeclined (numberOf a) (placeOf a)) same in (
       is .0 ∙ ap (λ (t : Table). t .count) (table-refused file bad),
       (
-        says ∙ sym (file-refused launch file lists bad),
-        table-kept launch (tableIn file) (r .reply) lists (ap (λ (p : Planned). eqb (p .number) 0) says ∙ refused-number (readAnswer file) bad),
+        says ∙ sym (file-refused launch (plainRead file) lists bad),
+        table-kept launch oneEach (tableIn file) (r .reply) lists (ap (λ (p : Planned). eqb (p .number) 0) says ∙ refused-number (readAnswer file) bad),
       ),
     )
 
@@ -142,8 +143,8 @@ returns-3 c =
     let made = planned .plan-table in (
       ap (λ (t : Table). t .count) (e ∙ table-accepted file (accepted branch)),
       (
-        made .ensures .0 ∙ (ap (λ (t : Table). planTable (start .args .launch) t (lent start)) e ∙ sym (file-accepted (start .args .launch) file _ (accepted branch))),
-        made .ensures .1 ∙ ap (λ (t : Table). listsAfter (start .args .launch) t (made .result) (lent start)) e,
+        made .ensures .0 ∙ (ap (λ (t : Table). planTable (start .args .launch) oneEach t (lent start)) e ∙ sym (file-accepted (start .args .launch) (plainRead file) _ (accepted branch))),
+        made .ensures .1 ∙ ap (λ (t : Table). listsAfter (start .args .launch) oneEach t (made .result) (lent start)) e,
       ),
     )
 

@@ -1,56 +1,41 @@
--- `planner::plan_jobs` meets its contract: each return knows the tests that led there, in their order, and a refusal touches no list.
-use mathlib.Core.Path.{sym, ap, _∙_}
-use native.Mathlib.Omega.{arith}
+-- `planner::plan_jobs` meets its contract: a refusal touches no list, and what is put under the chosen list is the plan.
 use borrow.Author.Needs.{needs}
-use lib.Dec.{eqb}
-use Rattle.base.specs.Arrays.{firstPlaces}
-use Rattle.schedule.specs.JobArrays.{noJob}
-use Rattle.plans.specs.declared.Planned.{Planned}
-use Rattle.plans.specs.Planning.{planDeclined, madeBy}
-use Rattle.plans.proofs.ReplyLaws.{jobs-unmet, jobs-short, jobs-planned, lists-kept, lists-written}
-use Rattle.plans.proofs.ArrayLaws.{array-none}
+use borrow.Author.Tests.{ne-eqb}
+use Rattle.table.specs.Reading.{oneEach}
+use Rattle.plans.specs.Planning.{LentLists}
+use Rattle.plans.proofs.ArrayLaws.{refused-plan, none-fit, put-known, put-plan}
 use Rattle.planner.proofs.plan_jobs.Statement.{statement}
 use Rattle.planner.proofs.plan_jobs.Tie as tie
 
-first-unmet-requires : tie.Need-first-unmet-requires
-first-unmet-requires c κs = c .before .before .before .before .pre
+-- the lists that are lent
+abbrev lent : (c : tie.Start) → LentLists
+lent c = record { marks = c .args .marks .now; starts = c .args .starts .now; ends = c .args .ends .now; tasks = c .args .tasks .now }
 
-declined-requires : tie.Need-declined-requires
-declined-requires c κs = search needs
+refused-jobs-requires : tie.Need-refused-jobs-requires
+refused-jobs-requires c κs = search needs
 
 returns : tie.Need-returns
 returns c =
     let start = c .before .before .before .before .before .before .before in
-    let found = c .before .before .first-unmet .ensures in (
-      c .declined .ensures ∙ (ap (planDeclined 8) found ∙ sym (jobs-unmet (start .args .nested) (start .args .count) _ _ (omega (arith, found)))),
-      lists-kept (start .args .nested) (start .args .count) (firstPlaces noJob (start .args .jobs) (start .args .count)) (c .declined .result) _ (ap (λ (p : Planned). eqb (p .number) 0) (c .declined .ensures)),
-    )
+    let refusal = c .before .before .refused-jobs in
+    refused-plan (start .args .nested) oneEach (start .args .jobs) (start .args .count) (lent start) (refusal .result) (refusal .ensures)
+    (ne-eqb (refusal .result .number) 0 (c .if1 .taken))
 
-too-short-requires : tie.Need-too-short-requires
-too-short-requires c κs = let start = c .before .before .before .before .before .before in (start .pre .some, start .pre .few)
+choose-requires : tie.Need-choose-requires
+choose-requires c κs =
+    let start = c .before .before .before .before .before .before .before in
+    let refusal = c .before .before .refused-jobs in
+    (start .pre, none-fit (start .args .nested) oneEach (start .args .jobs) (start .args .count) (lent start) (refusal .result) (refusal .ensures) (c .if1 .left) (start .pre))
 
-declined-requires-2 : tie.Need-declined-requires-2
-declined-requires-2 c κs = search needs
-
-returns-2 : tie.Need-returns-2
-returns-2 c =
-    let start = c .before .before .before .before .before .before .before .before .before in
-    let found = c .before .before .before .before .first-unmet .ensures in (
-      c .declined2 .ensures
-          ∙ sym (jobs-short (start .args .nested) (start .args .count) _ _ (omega (arith, found)) (sym (c .before .before .too-short .ensures) ∙ c .before .if2 .taken)),
-      lists-kept (start .args .nested) (start .args .count) (firstPlaces noJob (start .args .jobs) (start .args .count)) (c .declined2 .result) _ (ap (λ (p : Planned). eqb (p .number) 0) (c .declined2 .ensures)),
-    )
-
-put-plan-requires : tie.Need-put-plan-requires
-put-plan-requires c κs =
-    let start = c .before .before .before .before .before .before .before .before .before .before .before .before in
-    let found = c .before .before .before .before .before .before .before .first-unmet .ensures in (
-      start .pre,
-      (
-        array-none (start .args .nested) (start .args .jobs) (start .args .count) (start .pre) (omega (arith, found)),
-        sym (c .before .before .before .before .before .too-short .ensures) ∙ c .before .before .before .before .if2 .left,
-      ),
-    )
+put-choice-requires : tie.Need-put-choice-requires
+put-choice-requires c κs =
+    let chosen = c .before .before .before .before in
+    let start = chosen .before .before .before .before .before .before .before .before in
+    let refusal = chosen .before .before .before .refused-jobs in
+    let known =
+    put-known (start .args .nested) oneEach (start .args .jobs) (start .args .count) (lent start) (refusal .result) (refusal .ensures) (chosen .before .if1 .left) _ _ _
+    (chosen .choose .ensures) (start .pre) in
+    (start .pre, (known .0, known .1))
 
 same-length : tie.Need-same-length
 same-length c = search needs
@@ -64,33 +49,25 @@ same-length-3 c = search needs
 same-length-4 : tie.Need-same-length-4
 same-length-4 c = search needs
 
-returns-3 : tie.Need-returns-3
-unfolding madeBy
-returns-3 c =
-    let start = c .before .before .before .before .before .before .before .before .before .before .before .before .before .before .before .before .before .before .before .before .before in
-    let found = c .before .before .before .before .before .before .before .before .before .before .before .before .before .before .before .before .first-unmet .ensures in
-    let made = c .before .before .before .before .before .before .before .before .put-plan in
-    let put = made .ensures in (
-      put .0
-          ∙ sym
-          (jobs-planned (start .args .nested) (start .args .count) _ _ (omega (arith, found, c .before .before .before .before .before .before .before .before .before .before .before .before .before .before .before .if1 .left))
-          (sym (c .before .before .before .before .before .before .before .before .before .before .before .before .before .before .too-short .ensures) ∙ c .before .before .before .before .before .before .before .before .before .before .before .before .before .if2 .left)),
-      put .1 ∙ lists-written (start .args .nested) (start .args .count) (firstPlaces noJob (start .args .jobs) (start .args .count)) (made .result) _ (ap (λ (p : Planned). p .number) (put .0)),
-    )
+returns-2 : tie.Need-returns-2
+returns-2 c =
+    let made = c .before .before .before .before .before .before .before .before in
+    let chosen = made .before .before .before .before .before in
+    let start = chosen .before .before .before .before .before .before .before .before in
+    let refusal = chosen .before .before .before .refused-jobs in
+    put-plan (start .args .nested) oneEach (start .args .jobs) (start .args .count) (lent start) (refusal .result) (refusal .ensures) (chosen .before .if1 .left) _ _ _
+    (chosen .choose .ensures) (made .put-choice .result) _ (made .put-choice .ensures .0) (made .put-choice .ensures .1)
 
 pub plan-jobs-spec : {M : Type 1} → statement M
 plan-jobs-spec =
     tie.close
     (tie.spec
-    first-unmet-requires
-    declined-requires
+    refused-jobs-requires
     returns
-    too-short-requires
-    declined-requires-2
-    returns-2
-    put-plan-requires
+    choose-requires
+    put-choice-requires
     same-length
     same-length-2
     same-length-3
     same-length-4
-    returns-3)
+    returns-2)

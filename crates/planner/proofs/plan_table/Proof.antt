@@ -8,6 +8,7 @@ use lib.Dec.{eqb}
 use Rattle.base.specs.Limits.{maxLaunch}
 use Rattle.clock.specs.Clock.{badLaunch}
 use Rattle.table.specs.Kinds.{isNested}
+use Rattle.table.specs.Reading.{oneEach}
 use Rattle.plans.specs.declared.Planned.{Planned}
 use Rattle.plans.specs.Planning.{LentLists}
 use Rattle.plans.specs.KindJobs.{HeldJobs}
@@ -37,8 +38,8 @@ returns : tie.Need-returns
 returns c =
     let start = c .before .before .before .before .before .before .before in (
       c .declined .ensures
-          ∙ sym (table-launch (start .args .launch) (start .args .table) (lent start) (sym (c .before .before .bad-launch .ensures) ∙ c .before .if1 .taken)),
-      table-kept (start .args .launch) (start .args .table) (c .declined .result) (lent start) (ap (λ (p : Planned). eqb (p .number) 0) (c .declined .ensures)),
+          ∙ sym (table-launch (start .args .launch) oneEach (start .args .table) (lent start) (sym (c .before .before .bad-launch .ensures) ∙ c .before .if1 .taken)),
+      table-kept (start .args .launch) oneEach (start .args .table) (c .declined .result) (lent start) (ap (λ (p : Planned). eqb (p .number) 0) (c .declined .ensures)),
     )
 
 cast-count : tie.Need-cast-count
@@ -82,9 +83,9 @@ returns-2 c =
     let start = jobs .before .before .before .before .before .before .before .before in
     let kind = sym (start .pre .1 .0) in (
       made .plan-jobs .ensures .0
-          ∙ reply-of-jobs (start .args .launch) (start .args .table) (start .args .nested) kind _ (jobs .jobs-last-first .ensures) (accepted (jobs .before .before)) (lent start),
+          ∙ reply-of-jobs (start .args .launch) oneEach (start .args .table) (start .args .nested) kind _ (jobs .jobs-last-first .ensures) (accepted (jobs .before .before)) (lent start),
       made .plan-jobs .ensures .1
-          ∙ lists-of-jobs (start .args .launch) (start .args .table) (start .args .nested) kind _ (jobs .jobs-last-first .ensures) (made .plan-jobs .result) (lent start),
+          ∙ lists-of-jobs (start .args .launch) oneEach (start .args .table) (start .args .nested) kind _ (jobs .jobs-last-first .ensures) (made .plan-jobs .result) (lent start),
     )
 
 pub plan-table-spec : {M : Type 1} → statement M

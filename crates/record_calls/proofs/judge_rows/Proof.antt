@@ -39,6 +39,7 @@ use denote.Triple.Walked.{says, needs, Stays, stay-none, stay-none-slice, walkOf
 use denote.Exit.{yes}
 use Rattle.records.proofs.Walking.{spot, value}
 use Rattle.records.specs.RecordColumns.{maxCopied}
+use Rattle.table.specs.Reading.{plainRead}
 use Rattle.schedule.specs.Judging.{judgeReply, Sound}
 use Rattle.schedule.specs.declared.Run.{Run}
 use Rattle.schedule.proofs.Run as mRun
@@ -150,8 +151,8 @@ module _ {M : Type 1} (𝓤 : URA M) (H : Heap 𝓤) (A : Atoms 𝓤) (W : Given
         use3 W (raw (By 𝓤 H A judge.ended (judge.clauses 𝓤 H A at-mem run) .pre (to-judge α r v))) (goes-judge α r v glaunch) $
         -- [what the judge asks; true; what the marks own; the array's and count's; launch's; what the file owns; the lender's part; _9; …]
         asks ! framed judge.ended (judge.clauses 𝓤 H A at-mem run) judges (to-judge α r v) (Tokens α) (id⊢ 𝓤 _)
-        (λ y. y ≡ judgeReply launch (file .now) (marks .now) (r .now))
-        (λ y _. fst∗ 𝓤 (fact 𝓤 (y ≡ judgeReply launch (file .now) (marks .now) (r .now))) (fact 𝓤 (Sound launch (file .now) (marks .now) (r .now) y)))
+        (λ y. y ≡ judgeReply launch (plainRead (file .now)) (marks .now) (r .now))
+        (λ y _. fst∗ 𝓤 (fact 𝓤 (y ≡ judgeReply launch (plainRead (file .now)) (marks .now) (r .now))) (fact 𝓤 (Sound launch (plainRead (file .now)) (marks .now) (r .now) y)))
         (and-then ! (value ! 22 refl) (and-then ! (value ! 20 refl) (and-then ! (value ! 18 refl) (and-then ! (value ! 11 refl) (no-more !)))))
         (λ w y e′ is′.
         land ! (spot !) (init ! 25 refl (LL.lawful mJudged.the-type mJudged′.the-laws 𝓤 H A W .typed y _ is′ .0)) $
@@ -163,7 +164,7 @@ module _ {M : Type 1} (𝓤 : URA M) (H : Heap 𝓤) (A : Atoms 𝓤) (W : Given
         free1 ! $ free1 ! $ free1 ! $ free1 ! $ free1 ! $ free1 ! $ free1 ! $ free1 ! $ free1 ! $ free1 ! $ free0 ! $
         suffices ! _ (ends-at 𝓤 H A f.ended stayed (f.clauses 𝓤 H A at-mem run) W given w y
         (tt, (tt, (tt, (tt, (tt, tt))))) (tt, (tt, (tt, (tt, (tt, tt)))))) $
-        says ! (e′ ∙ ap (judgeReply launch (file .now) (marks .now)) e) $
+        says ! (e′ ∙ ap (judgeReply launch (plainRead (file .now)) (marks .now)) e) $
         move ! (0 ∷ 3 ∷ []) $ join ! $ move ! (1 ∷ 0 ∷ []) $ join ! $ frame ! $ move ! (1 ∷ 2 ∷ []) $ fjoin ! $ move ! (2 ∷ 0 ∷ []) $ fjoin ! $
         move ! (2 ∷ 0 ∷ []) $ fjoin ! $ frame ! $ done !)))))))))))))
 

@@ -1,5 +1,6 @@
 -- `report::plan_file` meets its contract: the lists that it lends are long enough for every table.
 use borrow.Author.Needs.{needs}
+use Rattle.table.proofs.RoundTrip.{read-legal}
 use Rattle.report.proofs.FilePlanLaws.{left-is}
 use Rattle.report.proofs.plan_file.Statement.{statement}
 use Rattle.report.proofs.plan_file.Tie as tie
@@ -22,7 +23,7 @@ plan-counted-requires c κs = search needs
 returns : tie.Need-returns
 returns c =
     let clauses = c .before .before .before .before .before .plan-counted .ensures in
-    left-is _ _ _ (record { reply-is = clauses .1 .0; lists-are = clauses .1 .1 }) (clauses .0)
+    left-is _ _ _ (record { lawful = read-legal _; reply-is = clauses .1 .0; lists-are = clauses .1 .1 }) (clauses .0)
 
 pub plan-file-spec : {M : Type 1} → statement M
 plan-file-spec =

@@ -4,10 +4,11 @@ use mathlib.Core.Path.{_≡_, refl, sym, ap, _∙_}
 use native.Mathlib.Omega.{arith}
 use borrow.Author.Needs.{needs}
 use lib.ListN.{getD}
+use Rattle.base.specs.Arrays.{Rewritten}
+use Rattle.base.proofs.RewriteLaws.{rewritten-start, rewritten-next, written-next}
 use Rattle.choice.specs.Decisions.{rowPlaces, hugeTicks}
-use Rattle.sequence.specs.KeptRows.{limitedEnd, numbersFrom, rowWith, Rewritten}
+use Rattle.sequence.specs.KeptRows.{limitedEnd, numbersFrom, rowWith}
 use Rattle.sequence.proofs.BesideLaws.{with-first, with-made}
-use Rattle.sequence.proofs.RewriteLaws.{rewritten-start, rewritten-next, written-next}
 use Rattle.sequencing.proofs.row_with.Statement.{statement}
 use Rattle.sequencing.proofs.row_with.Tie as tie
 

@@ -3,9 +3,10 @@ use Prim.Native.Nat.{ℕ, _+_, _-_, _≤_}
 use mathlib.Core.Path.{_≡_, refl, ap, _∙_}
 use native.Mathlib.Omega.{arith}
 use lib.ListN.{getD}
+use Rattle.base.specs.Arrays.{Rewritten}
+use Rattle.base.proofs.RewriteLaws.{rewritten-start, written-next}
 use Rattle.choice.specs.Decisions.{rowPlaces}
-use Rattle.sequence.specs.KeptRows.{limitedEnd, numbersFrom, rowWithout, Rewritten}
-use Rattle.sequence.proofs.RewriteLaws.{rewritten-start, written-next}
+use Rattle.sequence.specs.KeptRows.{limitedEnd, numbersFrom, rowWithout}
 use Rattle.sequencing.proofs.row_without.Statement.{statement}
 use Rattle.sequencing.proofs.row_without.Tie as tie
 

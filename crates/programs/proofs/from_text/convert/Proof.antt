@@ -14,6 +14,9 @@ wrong-line-requires c κs = search needs
 returns : tie.Need-returns
 returns c = search needs
 
+slice-aggregate-refused : tie.Need-slice-aggregate-refused
+slice-aggregate-refused c = search needs
+
 refused-requires : tie.Need-refused-requires
 refused-requires c κs = search needs
 
@@ -39,6 +42,7 @@ convert-spec =
     from-text-requires
     wrong-line-requires
     returns
+    slice-aggregate-refused
     refused-requires
     returns-2
     array-share-prefix-file

@@ -14,6 +14,9 @@ read-full-requires c κs = search needs
 to-text-from-first-requires : tie.Need-to-text-from-first-requires
 to-text-from-first-requires c κs = search needs
 
+slice-aggregate-refused : tie.Need-slice-aggregate-refused
+slice-aggregate-refused c = search needs
+
 refused-requires : tie.Need-refused-requires
 refused-requires c κs = search needs
 
@@ -39,6 +42,7 @@ table-to-text-spec =
     slice-aggregate-read-full
     read-full-requires
     to-text-from-first-requires
+    slice-aggregate-refused
     refused-requires
     returns
     array-share-prefix-text

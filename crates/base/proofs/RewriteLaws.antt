@@ -4,9 +4,9 @@ use mathlib.Core.Path.{_≡_, refl, _∙_}
 use mathlib.Core.List.{List}
 use native.Mathlib.Omega.{arith}
 use native.Mathlib.Decide.{ℕ-discrete}
-use lib.ListN.{length, set, length-set}
+use lib.ListN.{length, getD, set, length-set}
 use lib.Seq.{getD-set-same, getD-set-other}
-use Rattle.sequence.specs.KeptRows.{Rewritten}
+use Rattle.base.specs.Arrays.{Rewritten}
 
 module _ {A : Type 0} (blank : A) (item : ℕ → A) (first : ℕ) (old : List A) where
   -- no place is written yet
@@ -43,3 +43,15 @@ module _ {A : Type 0} (blank : A) (item : ℕ → A) (first : ℕ) (old : List A
             ];
         beyond = λ k h. rw (getD-set-other list place k x blank (omega arith)) (r .beyond k (omega arith));
       }
+
+-- what stands in a list that was written over from its first place on
+pub front-written : {A : Type 0} (blank : A) (item : ℕ → A) (high : ℕ) (old list : List A) → Rewritten blank item 0 0 high old list
+    → (v : ℕ) → v < high → getD list v blank ≡ item v
+front-written blank item high old list r v l =
+    let first : 0 + v ≡ v = omega arith in
+    rw first at (r .written v (omega arith) l)
+
+-- and beyond what was written
+pub front-beyond : {A : Type 0} (blank : A) (item : ℕ → A) (high : ℕ) (old list : List A) → Rewritten blank item 0 0 high old list
+    → (v : ℕ) → high ≤ v → getD list v blank ≡ getD old v blank
+front-beyond blank item high old list r v l = r .beyond v (omega arith)

@@ -1,0 +1,2 @@
+pub mod UnweightedLaws
+pub mod CallLaws
