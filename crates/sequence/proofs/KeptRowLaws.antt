@@ -52,7 +52,7 @@ pub record Built (size : ℕ) (at : ℕ → Job) (count i : ℕ) (rows : List �
   pub rows_kept : RowsKept at count i rows
   pub blank : (k : ℕ) → k < i → (v : ℕ) → v ≤ count → get_or rows (row_places * k + v) 0 ≡ huge_ticks
   pub most_is : most ≡ most_worth count_one huge_ticks (jobs_from at count i)
-  pub most_within_lem : most + i ≤ count
+  pub most_within : most + i ≤ count
   pub mandatory_is : mandatory ≡ mandatory_sum (jobs_from at count i)
   pub mandatory_most : mandatory + max_ticks * i ≤ max_ticks * count
 
@@ -96,7 +96,7 @@ module _ (at : ℕ → Job) (count : ℕ) (small : count ≤ max_tasks) where
             rw (get_or-set_other rows (row_places * count) (row_places * k + v) 0 0 (omega arith))
             (blank (row_places * k + v) (omega (arith, room.0)));
         most_is = rw none;
-        most_within_lem = omega arith;
+        most_within = omega arith;
         mandatory_is = rw none;
         mandatory_most = omega arith;
       }
@@ -157,7 +157,7 @@ module _ (at : ℕ → Job) (count : ℕ) (small : count ≤ max_tasks) where
         let jobs = jobs_from at count i in
         let best = most_worth count_one huge_ticks jobs in
         let below = (most_worth_lem count_one huge_ticks jobs (from_small at count bounded i (omega (arith, b.within_is))) (omega arith) _ fit-step).0 in
-        let range : most + worth ≤ count = omega (arith, b.most_within_lem, count_one-most (at i)) in
+        let range : most + worth ≤ count = omega (arith, b.most_within, count_one-most (at i)) in
         let reached : best ≤ most + worth =
         elim (dec_lt (most + worth) best) [
           | yes m ↦ absurd (omega (arith, beyond-huge best m))
@@ -182,13 +182,13 @@ module _ (at : ℕ → Job) (count : ℕ) (small : count ≤ max_tasks) where
                 elim (ℕ_discrete k i) [
                   | yes s ↦ rw s (row_step next made v n)
                   | no s ↦
-                      made.beyond (row_places * k + v) (omega (arith, b.most_within_lem))
+                      made.beyond (row_places * k + v) (omega (arith, b.most_within))
                       ∙ b.rows_kept.row k (omega arith) m v n
                 ];
           };
           blank = λ k l v n. made.below (row_places * k + v) (omega arith) ∙ b.blank k (omega arith) v n;
           most_is = is ∙ most_step next made;
-          most_within_lem = omega (arith, greatest_most huge_ticks (numbers_from next (row_places * i)) (most + worth), b.most_within_lem);
+          most_within = omega (arith, greatest_most huge_ticks (numbers_from next (row_places * i)) (most + worth), b.most_within);
           mandatory_is = rw (from_step, sum_cons (at i) (jobs_from at count (i + 1))) (omega (arith, b.mandatory_is));
           mandatory_most = omega (arith, b.mandatory_most, (bounded i (omega (arith, b.within_is))).mandatory);
         }

@@ -93,7 +93,7 @@ pub record RowsInPlace (jobs : List Job) (count : ℕ) (rows : List ℕ) (most m
   pub room : RoomFor count (length rows)
   pub rows_kept : RowsKept (λ k. get_or jobs k no_job) count 0 rows
   pub most_is : most ≡ most_worth count_one huge_ticks (jobs_in jobs count)
-  pub most_within_lem : most ≤ count
+  pub most_within : most ≤ count
   pub mandatory_is : mandatory ≡ mandatory_sum (jobs_in jobs count)
 
 -- the number of the optional parts above 0 ticks of the first `count` of some jobs

@@ -96,7 +96,7 @@ loop-again c =
     let at-loop = c.before.before.before.before.before.before.before.before.before.before.before in
     let pre = at-loop.before.before.before.requires in
     built-step _ _ pre.0 pre.1.1.0 (at-loop.loop.i - 1) _ _ _ _ _ (inside at-loop (omega arith)) (bounded at-loop (omega arith)) _ _ _ _ _
-    c.before.before.worth.ensures c.before.before.before.before.before.add-job.ensures c.before.before.before.before.before.before.before.room-beside.ensures c.most_within_lem.ensures
+    c.before.before.worth.ensures c.before.before.before.before.before.add-job.ensures c.before.before.before.before.before.before.before.room-beside.ensures c.most_within.ensures
 
 same_length : tie.Need-same-length invariant-loop decreases-loop
 same_length c = c.before.loop.invariant.length_is ∙ sym (ap length c.before.before.before.before.requires.1.1.1.0 ∙ length-replicate {A = ℕ} row_places 0)

@@ -25,7 +25,7 @@ read-back-requires c κs =
     let rows = called.rows_of_lem.ensures in (
       pre.0,
       (
-        rows.most_within_lem,
+        rows.most_within,
         (pre.1.0, (rows.room, (rows.rows_kept, (rows.mandatory_is, (found called).below)))),
       ),
     )
@@ -37,7 +37,7 @@ most-parts c = omega (arith, (found c).others, c.before.before.before.requires.1
 cast-t12 : tie.Need-overflow-cast-t12
 cast-t12 c =
     let called = c.before.before.before.before in
-    omega (arith, called.rows_of_lem.ensures.most_within_lem, called.before.before.before.requires.0)
+    omega (arith, called.rows_of_lem.ensures.most_within, called.before.before.before.requires.0)
 
 sub-t13 : tie.Need-overflow-sub-t13
 sub-t13 c = most-parts c.before.before.before.before

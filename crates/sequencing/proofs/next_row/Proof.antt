@@ -52,7 +52,7 @@ same_length : tie.Need-same-length
 same_length c = (put c.before.before).same_length
 
 returns : tie.Need-returns
-returns c = (put c.before.before, c.most_within_lem.ensures)
+returns c = (put c.before.before, c.most_within.ensures)
 
 pub next-row-spec : {M : Type 1} → statement M
 next-row-spec =

@@ -23,14 +23,14 @@ bounded : (c : tie.In-loop invariant-loop decreases-loop) → Bounded (get_or c.
 bounded c = c.before.before.before.requires.1.0 (c.before.loop.i - 1) (omega (arith, c.before.loop.invariant.within_is))
 
 -- with it no more parts are kept than there are jobs
-most_within_lem : (c : tie.After-worth invariant-loop decreases-loop)
+most_within : (c : tie.After-worth invariant-loop decreases-loop)
     → c.before.before.before.before.before.before.loop.most + c.worth.result + c.before.before.before.before.before.before.loop.i
     ≤ c.before.before.before.before.before.before.before.before.args.count + 1
-most_within_lem c =
+most_within c =
     let at-loop = c.before.before.before.before.before.before in
     omega (
       arith,
-      at-loop.loop.invariant.most_within_lem,
+      at-loop.loop.invariant.most_within,
       c.worth.ensures,
       count_one-most (get_or at-loop.before.before.args.t1 (at-loop.loop.i - 1) no_job),
     )
@@ -74,7 +74,7 @@ mul-next-row : tie.Need-overflow-mul-next-row invariant-loop decreases-loop
 mul-next-row c = omega (arith, c.before.before.before.before.before.before.before.loop.invariant.within_is, c.before.before.before.before.before.before.before.before.before.requires.0)
 
 add-next-row : tie.Need-overflow-add-next-row invariant-loop decreases-loop
-add-next-row c = omega (arith, most_within_lem c.before)
+add-next-row c = omega (arith, most_within c.before)
 
 next-row-requires : tie.Need-next-row-requires invariant-loop decreases-loop
 next-row-requires c κs =
@@ -84,7 +84,7 @@ next-row-requires c κs =
     let loop = inside.before.loop in
     let built = loop.invariant in
     let next : loop.i ≡ loop.i - 1 + 1 = omega arith in
-    let most = most_within_lem worth in
+    let most = most_within worth in
     let job = bounded inside in (
       omega (arith, start.requires.0),
       (
@@ -129,7 +129,7 @@ returns c =
       room = rw built.length_is built.room;
       rows_kept = rw end at built.rows_kept;
       most_is = rw (end, start) at built.most_is;
-      most_within_lem = omega (arith, built.most_within_lem);
+      most_within = omega (arith, built.most_within);
       mandatory_is = rw (end, start) at built.mandatory_is;
     }
 

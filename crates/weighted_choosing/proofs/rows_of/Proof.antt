@@ -185,7 +185,7 @@ loop-again c =
     let a = loop-of weighed in
     let pre = (start_of a).pre in
     made-step _ _ _ pre.0 pre.1.1.0 (a.loop.i - 1) _ _ _ _ _ (inside a (omega arith)) (bounded a (omega arith)) _ _ weighed.weight-of.ensures (light weighed)
-    added.add-part.ensures _ _ _ _ weighed.before.room-beside.ensures decided.decide.ensures put.next_row.ensures c.most_within_lem.ensures
+    added.add-part.ensures _ _ _ _ weighed.before.room-beside.ensures decided.decide.ensures put.next_row.ensures c.most_within.ensures
 
 same_length : tie.Need-same-length invariant-loop decreases-loop
 same_length c =
