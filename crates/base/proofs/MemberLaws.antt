@@ -16,6 +16,7 @@ all_map P Q (x ∷ xs) f h = (f x h.0, all_map P Q xs f h.1)
 
 -- and for some member
 pub any_map : {A : Type 0} (P Q : A → Type 0) (xs : List A) → ((x : A) → P x → Q x) → Any P xs → Any Q xs
+any_map P Q [] f h = absurd h
 any_map P Q (x ∷ xs) f (inl h) = inl (f x h)
 any_map P Q (x ∷ xs) f (inr h) = inr (any_map P Q xs f h)
 
@@ -24,6 +25,7 @@ pub all_members : {A : Type 0} (P : A → Type 0) (xs : List A) → All P xs ↔
 all_members P xs = (to xs, fro xs)
   where
     to : (xs : List _) → All P xs → (x : _) → Any (λ y. y ≡ x) xs → P x
+    to [] h x m = absurd m
     to (y ∷ ys) h x (inl e) = rw e at h.0
     to (y ∷ ys) h x (inr m) = to ys h.1 x m
 
@@ -33,6 +35,7 @@ all_members P xs = (to xs, fro xs)
 
 -- where some member is P, there is one
 pub any_member : {A : Type 0} (P : A → Type 0) (xs : List A) → Any P xs → (x : A) × Any (λ y. y ≡ x) xs × P x
+any_member P [] h = absurd h
 any_member P (x ∷ xs) (inl h) = (x, inl refl, h)
 any_member P (x ∷ xs) (inr h) = let m = any_member P xs h in (m.0, inr m.1, m.2)
 
@@ -63,6 +66,7 @@ all_places P at n = (
 
 any_from : {A : Type 0} (P : A → Type 0) (at : ℕ → A) (i n : ℕ) → Any P (places_from at i n) → (k : ℕ) × (i ≤ k) × (k < i + n) × P (at k)
 unfolding places_from
+any_from P at i zero h = absurd h
 any_from P at i (suc n) (inl h) = (i, omega arith, omega arith, h)
 any_from P at i (suc n) (inr h) =
     let m = any_from P at (suc i) n h in

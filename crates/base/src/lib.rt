@@ -1,5 +1,6 @@
 // What every crate shares. The limits of the planner are named here, once; definitions cite the same numbers by the names in
 // specs/Limits.antt.
+#![tactic(auto)]
 
 // The most tasks of a table, and the places of a table value.
 pub const MAX_TASKS: usize = 64;

@@ -1,31 +1,33 @@
 // Bit-packed rows of fields: a cursor that reads or writes one row after another, and a row that gives one field after another, each starting at the
 // bit where the last ended.
+#![tactic(auto)]
+
 ghost use Rattle.std.specs.Prelude.{◌≡◌, ◌+◌, ◌-◌, ◌*◌, ◌/◌, ◌%◌, ◌^◌, ◌≤◌, ◌<◌, min, length};
 ghost use Rattle.bits.specs.Bits.{field, bits_of};
 ghost use Rattle.bits.specs.PutBits.{put_bits};
 
 // The bit of a file at which the next row of fields starts.
-#[derive(Drop)]
+#[derive(Clone, Copy)]
 pub struct Cursor {
     pub at: usize,
 }
 
 // The bits of a row as a number, and how many of them, at its end, are not taken yet: the next field starts there.
-#[derive(Drop)]
+#[derive(Clone, Copy)]
 pub struct Row {
     pub bits: u64,
     pub left: usize,
 }
 
 // A row that was read, and the cursor moved on to the bit after it.
-#[derive(Drop)]
+#[derive(Clone, Copy)]
 pub struct TakenRow {
     pub row: Row,
     pub next: Cursor,
 }
 
 // A field that was read, and the row moved on to the bit after it.
-#[derive(Drop)]
+#[derive(Clone, Copy)]
 pub struct Taken {
     pub value: u32,
     pub next: Row,

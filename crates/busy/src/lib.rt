@@ -1,4 +1,6 @@
 // The busy count of an interval (an entry point): the ticks of the interval that some run holds, added run by run over a list that the check accepts.
+#![tactic(auto)]
+
 ghost use Rattle.std.specs.Prelude.{◌≡◌};
 ghost use Rattle.records.specs.RecordColumns.{LegalColumns, copied_runs};
 ghost use Rattle.schedule.specs.LentRuns.{OneLength, runs_before};

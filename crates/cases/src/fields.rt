@@ -6,14 +6,14 @@ ghost use Rattle.io.specs.Counts.{IsPrefixLen};
 use crate::print;
 
 // A number that was read: its value, and the index behind its digits.
-#[derive(Drop)]
+#[derive(Clone, Copy)]
 struct Decimal {
     value: u64,
     next: usize,
 }
 
 // The numbers that one item of a list stands for: how many, the first of them, what each is above the one before it, and the index behind the item.
-#[derive(Drop)]
+#[derive(Clone, Copy)]
 struct Item {
     count: u64,
     value: u64,

@@ -1,4 +1,6 @@
 // What the test programs share: cases that stand on lines of text, printing, the table files that several cases are about, and lent lists.
+#![tactic(auto)]
+
 mod fields;
 mod files;
 mod lent;

@@ -1,4 +1,6 @@
 // The check of a run list that stands in columns: what the busy count and every query refuse of it, before they look at anything else.
+#![tactic(auto)]
+
 ghost use Rattle.std.specs.Prelude.{◌≡◌, List, ℕ, length, ltb, not};
 ghost use Rattle.schedule.specs.Runs.{runs_of};
 ghost use Rattle.schedule.specs.RunCheck.{first_out_of_order, check_answer};

@@ -1,6 +1,8 @@
 // The choice of optional parts of nested jobs: which of them a plan keeps. One row of numbers a job, from the innermost job outwards, each written over the last,
 // and the marks read back from the outermost inwards, as the definitions in choice have them. The steps of a row from one number of parts to the next never
 // fall (choice ConvexLaws), so of a row only the numbers above one place change, its rank, and the rank is all that the way back must know of a job.
+#![tactic(auto)]
+
 ghost use Rattle.std.specs.Prelude.{◌≡◌, true, false, ℕ, ◌+◌, ◌-◌, ◌≤◌, ◌<◌, length, get_or, replicate};
 ghost use Rattle.base.specs.Limits.{max_tasks, max_ticks};
 ghost use Rattle.schedule.specs.Jobs.{window_ticks};
@@ -21,7 +23,7 @@ pub const ROW_PLACES: usize = MAX_TASKS + 1;
 pub const HUGE: u32 = 1_073_741_824;
 
 // What the choice comes to: the keep list, in the order of the jobs, and the counts of optional parts above 0 ticks that it keeps and discards.
-#[derive(Drop)]
+#[derive(Clone, Copy)]
 pub struct Choice {
     pub keeps: [bool; MAX_TASKS],
     pub kept: u32,
@@ -29,7 +31,7 @@ pub struct Choice {
 }
 
 // What the rows come to: the number of optional parts above 0 ticks, and the most of them that a list that fits keeps.
-#[derive(Drop)]
+#[derive(Clone, Copy)]
 struct Parts {
     pub all: usize,
     pub most: usize,

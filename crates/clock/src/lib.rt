@@ -1,6 +1,8 @@
 // The frame clock: from a launch tick, a period p/q and a frame to a tick. A tick is one millisecond, one frame lasts p/q ticks, and frame 0 begins at
 // the launch tick. A release waits for the end of its frame, which is where the next frame begins. Both functions multiply first and divide once, so no
 // error is carried from frame to frame.
+#![tactic(auto)]
+
 ghost use Rattle.std.specs.Prelude.{◌≡◌, false, ◌≤◌};
 ghost use Rattle.base.specs.Limits.{last_frame, max_launch, bad_period};
 ghost use Rattle.clock.specs.Clock.{bad_launch, release_tick, deadline_tick, LeastNotBefore, GreatestNotAfter};

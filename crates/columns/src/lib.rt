@@ -1,4 +1,6 @@
 // Columns of numbers: a number put in at a place, and a part copied into a lent column.
+#![tactic(auto)]
+
 ghost use Rattle.std.specs.Prelude.{◌≡◌, ◌++◌, ◌+◌, ◌≤◌, ◌<◌, length, get_or, drop};
 ghost use Rattle.base.specs.Places.{places_from};
 ghost use Rattle.columns.specs.Columns.{Inserted};

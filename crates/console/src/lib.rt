@@ -1,4 +1,6 @@
 // What runs now and what runs next: the text for a tick of a file's plan, as bytes in a lent list.
+#![tactic(auto)]
+
 ghost use Rattle.std.specs.Prelude.{◌≡◌, ◌+◌, ◌≤◌, min, length};
 ghost use Rattle.schedule.specs.LentRuns.{OneLength, runs_lent, runs_before};
 ghost use Rattle.schedule.specs.Queries.{touching};

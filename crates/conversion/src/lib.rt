@@ -1,4 +1,6 @@
 // Table files and lines of text, one made from the other in a lent list: plain tables, and weighted ones.
+#![tactic(auto)]
+
 ghost use Rattle.std.specs.Prelude.{◌≡◌, List, [], ◌∷◌, ◌++◌, ℕ, ◌+◌, ◌≤◌, ◌<◌, length, take};
 ghost use Rattle.base.specs.Limits.{max_tasks};
 ghost use Rattle.base.specs.Places.{places};

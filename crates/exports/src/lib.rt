@@ -1,5 +1,7 @@
 // The C interface: the calls under plain names, for a program in C or Rust that links the static library. A list passes as a pointer and a
 // length. include/planner.h declares them.
+#![tactic(auto)]
+
 ghost use Rattle.std.specs.Prelude.{◌≡◌, length};
 ghost use Rattle.table.specs.Reading.{plain_read};
 ghost use Rattle.table.specs.Writing.{write_reply, written_over};
@@ -22,7 +24,7 @@ use weighted_file::Weighted;
 
 // The reply of reading: the answer's number and place, and the table, which is 0 throughout on a refusal.
 #[repr(C)]
-#[derive(Drop)]
+#[derive(Clone, Copy)]
 pub struct TableRead {
     pub number: u32,
     pub place: usize,
@@ -31,7 +33,7 @@ pub struct TableRead {
 
 // The reply of reading a weighted table: the same, with the weighted table.
 #[repr(C)]
-#[derive(Drop)]
+#[derive(Clone, Copy)]
 pub struct WeightedTableRead {
     pub number: u32,
     pub place: usize,
@@ -40,7 +42,7 @@ pub struct WeightedTableRead {
 
 // The reply of the check of a run list: the answer's number and place.
 #[repr(C)]
-#[derive(Drop)]
+#[derive(Clone, Copy)]
 pub struct Checked {
     pub number: u32,
     pub place: usize,
@@ -48,7 +50,7 @@ pub struct Checked {
 
 // The reply of a query for one run: the answer's number and place, whether there is a run, and the run, which is 0 throughout where there is none.
 #[repr(C)]
-#[derive(Drop)]
+#[derive(Clone, Copy)]
 pub struct FoundRun {
     pub number: u32,
     pub place: usize,

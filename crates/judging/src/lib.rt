@@ -1,5 +1,7 @@
 // Judging a keep list and a run list (an entry point): the runs are copied into columns, then one pass over these and a few over the tasks, in a fixed
 // amount of memory.
+#![tactic(auto)]
+
 ghost use Rattle.std.specs.Prelude.{◌≡◌, ◌≤◌, eqb, length, get_or};
 ghost use Rattle.base.specs.Limits.{max_tasks, max_runs};
 ghost use Rattle.base.specs.Tests.{and};
@@ -21,7 +23,7 @@ use schedule::{Job, Judged, Run};
 use table::{Answer, Reading, Table};
 
 // What the pass over the runs comes to: whether every run fits, and then the ticks that the runs of each task total.
-#[derive(Drop)]
+#[derive(Clone, Copy)]
 struct Pass {
     fits: bool,
     totals: [u64; MAX_TASKS],

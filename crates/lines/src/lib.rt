@@ -1,4 +1,6 @@
 // Lines of text put into a lent list, as bytes: words, decimal numbers, a newline at the end of a line.
+#![tactic(auto)]
+
 ghost use Rattle.std.specs.Prelude.{[], ◌∷◌, ◌+◌, ◌≤◌, ◌<◌, length};
 ghost use Rattle.lines.specs.Putting.{Put};
 ghost use Rattle.lines.specs.Text.{decimal, fields, line};

@@ -1,4 +1,6 @@
 // Moving a table file by a signed number of frames (an entry point).
+#![tactic(auto)]
+
 ghost use Rattle.std.specs.Prelude.{◌≡◌, false, ◌≤◌, length};
 ghost use Rattle.base.specs.Limits.{max_tasks};
 ghost use Rattle.table.specs.Moving.{outside, frame_of, moved_frame, moved_task, moved_outside, first_outside, moved_table, move_reply, moved_over};
@@ -8,7 +10,7 @@ use base::{LAST_FRAME, MAX_TASKS};
 use table::{Answer, NO_TASK, Table, Task, Written};
 
 // Where a moved frame comes to lie.
-#[derive(Drop)]
+#[derive(Clone, Copy)]
 enum Moved {
     Frame(u32),
     Outside,

@@ -1,5 +1,7 @@
 // The placing of nested jobs: which ticks each task gets, and the runs that they make. Jobs stand outermost first. The runs found so far stand by
 // start in three columns, and each job is filled into the gaps between them from its deadline downwards.
+#![tactic(auto)]
+
 ghost use Rattle.std.specs.Prelude.{◌≡◌, true, ◌+◌, ◌-◌, ◌≤◌, ◌<◌, min, length};
 ghost use Rattle.base.specs.Limits.{max_tasks, max_plan_runs};
 ghost use Rattle.schedule.specs.Jobs.{work_with};
@@ -28,7 +30,7 @@ const NO_RUNS: Span = Span {
 };
 
 // What filling a job into the gaps above runs leaves: the place after the last run, and the ticks of work that are still to be placed.
-#[derive(Drop)]
+#[derive(Clone, Copy)]
 struct GapsFilled {
     pub end: usize,
     pub left: u32,

@@ -1,5 +1,7 @@
 // Planning (an entry point): reading's refusals, then 14, 8 and 9, then the choice of optional parts and the placing of work, and the marks and runs
 // in the lent lists.
+#![tactic(auto)]
+
 ghost use Rattle.std.specs.Prelude.{◌≡◌, true, false, reverse, ℕ, ◌≤◌, ◌<◌, length, get_or};
 ghost use Rattle.base.specs.Limits.{max_tasks};
 ghost use Rattle.base.specs.Places.{places};
@@ -266,7 +268,7 @@ fn plan_table(
 }
 
 // A reply of planning with the task count of the table that was read, which is 0 where reading refuses.
-#[derive(Drop)]
+#[derive(Clone, Copy)]
 pub struct Counted {
     pub count: u32,
     pub reply: Planned,

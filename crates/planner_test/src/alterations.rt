@@ -4,7 +4,7 @@ use small_tables::{PLACES, RUNS};
 use std::num::wrapping_add_u32;
 
 // A plan as the planner gives it: the reply, and the lent lists.
-#[derive(Drop)]
+#[derive(Clone, Copy)]
 pub struct Plan {
     pub reply: Planned,
     pub marks: [u8; PLACES],

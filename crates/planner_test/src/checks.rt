@@ -11,7 +11,7 @@ use table::{NO_TASK, Table, Task};
 
 // What planning a table came to: the planner's reply, whether the windows are nested, what trying all runnings came to, and whether the plan is other than
 // the search over every keep list finds, or than the judge says yes to.
-#[derive(Drop)]
+#[derive(Clone, Copy)]
 struct Outcome {
     reply: Planned,
     nested: bool,
@@ -21,7 +21,7 @@ struct Outcome {
 }
 
 // What trying all runnings of a table came to: whether they were tried, how many there are, and whether the reply is other than they say.
-#[derive(Drop)]
+#[derive(Clone, Copy)]
 struct Tried {
     done: bool,
     runnings: u32,

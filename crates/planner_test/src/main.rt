@@ -45,6 +45,8 @@
 // - The runnings say whether there is a plan (3,712 tables of one of the kinds), the place of 8 (456), and how many parts a plan discards (3,256).
 // - The judge says no to other counts (3,256); to one run more, which is empty, and none is due with a refusal (4,096); to a mark that changes task 0's work
 //   (1,628); and to a run that is longer, shorter or another task's (3,198). Where the number is altered to that of a refusal, no runs are due (3,198).
+#![tactic(auto)]
+
 mod alterations;
 mod checks;
 mod judges;

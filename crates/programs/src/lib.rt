@@ -1,6 +1,8 @@
 // The programs, each as one function over file descriptors. How many bytes `plan`, `now`, `table_to_text` and `weighted_to_text` read of their input comes with
 // the type of the function that is called: they can't choose it. `table_from_text` and `weighted_from_text` read a text into a buffer, and refuse one that fills
 // it.
+#![tactic(auto)]
+
 use console::NOW_INPUT_BYTES;
 use report::{INPUT_BYTES, MAX_TEXT};
 

@@ -2,6 +2,8 @@
 // `show_weighted` or `make_weighted`, a colon, a space and the name of a file. Behind the line of `plan` and `now` comes what is written to standard output. The
 // others write to standard error too. They are run twice, each time with one of the two streams closed: behind the line `errors` comes what is written to standard error,
 // and behind the line `output` what is written to standard output.
+#![tactic(auto)]
+
 use libc::{STDIN_FILENO, STDOUT_FILENO};
 
 // A descriptor that is not open: what is written there is lost.

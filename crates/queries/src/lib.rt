@@ -1,6 +1,8 @@
 // Queries of a run list, whoever made it (entry points): the run at a tick, the first run that starts at a tick or after it, the caller's own runs that share
 // a tick with an interval, and the check that tells what the queries and the busy count refuse. The records are copied into columns once, and the search is
 // done there.
+#![tactic(auto)]
+
 ghost use Rattle.std.specs.Prelude.{◌≡◌};
 ghost use Rattle.schedule.specs.LentRuns.{BeginsAt};
 ghost use Rattle.schedule.specs.RunCheck.{check_answer};
@@ -12,7 +14,7 @@ use records::RunColumns;
 use schedule::{Found, Run, RunsAnswer, Stretch};
 
 // The two ends of a stretch of a list: from one index to another, which is excluded.
-#[derive(Drop)]
+#[derive(Clone, Copy)]
 struct Bounds {
     from: usize,
     to: usize,

@@ -1,5 +1,7 @@
 // For the test programs: the entry points over run records, called with runs that stand in an array. The array's first runs are lent to them as a list
 // of records. A function that lends is proved by hand, step by step; whoever calls it has the array by value.
+#![tactic(auto)]
+
 ghost use Rattle.std.specs.Prelude.{◌≡◌, ◌≤◌, take};
 ghost use Rattle.records.specs.RecordColumns.{max_copied, LegalColumns, copied_runs};
 ghost use Rattle.table.specs.Reading.{plain_read};
@@ -11,7 +13,7 @@ use schedule::{Busy, Found, Judged, NO_RUN, Run, RunsAnswer};
 
 // What the entry points over a run list answer, but for the judge: the check, the run at a tick, the first run that starts at it or after it, the busy
 // count of an interval, and the runs that share a tick with it, column by column.
-#[derive(Drop)]
+#[derive(Clone, Copy)]
 pub struct Answers {
     pub check: RunsAnswer,
     pub at: Found,

@@ -1,5 +1,7 @@
 // Run records, as a caller lends them: one list of runs. They are copied once into columns of numbers, and all work is done over columns. A function that
 // has a list of records in its hands is proved by hand, step by step, so there are few of them and they are thin.
+#![tactic(auto)]
+
 ghost use Rattle.std.specs.Prelude.{◌≡◌, ◌-◌, ◌<◌, ◌≤◌, min, length, get_or, take, drop};
 ghost use Rattle.schedule.specs.LentRuns.{BeginsAt};
 ghost use Rattle.schedule.specs.Runs.{no_run};
@@ -12,7 +14,7 @@ use schedule::Run;
 pub const MAX_COPIED: usize = MAX_RUNS + 1;
 
 // The first runs of a list, column by column. The places beyond the count are 0.
-#[derive(Drop)]
+#[derive(Clone, Copy)]
 pub struct RunColumns {
     pub count: usize,
     pub starts: [u32; MAX_COPIED],

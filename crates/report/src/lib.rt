@@ -1,4 +1,6 @@
 // The printed plan: the text of a file's plan or refusal at a launch tick, as bytes in a lent list.
+#![tactic(auto)]
+
 ghost use Rattle.std.specs.Prelude.{◌≡◌, [], ◌∷◌, ◌+◌, ◌*◌, ◌≤◌, length};
 ghost use Rattle.schedule.specs.LentRuns.{OneLength, runs_lent, runs_before};
 ghost use Rattle.lines.specs.Putting.{Put};
@@ -97,7 +99,7 @@ fn put_plan(
 }
 
 // What planning a file leaves to print: the reply, the task count, and the marks and the columns of the runs, in lists that are long enough for every table.
-#[derive(Drop)]
+#[derive(Clone, Copy)]
 pub struct FilePlan {
     pub reply: Planned,
     pub count: u32,

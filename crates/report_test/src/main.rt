@@ -4,6 +4,8 @@
 // of the program `plan`: the 4 bytes of a launch tick, and a table file. One that starts with `first` has no file, a number, and how many bytes an
 // input has, each of them that number: the program reads the first ones. What the file or the input gets is printed, and a line behind it. A line
 // that starts with `short` has bytes that are printed, as a file and as an input, into a list of 100 bytes.
+#![tactic(auto)]
+
 use libc::STDIN_FILENO;
 use report::{INPUT_BYTES, MAX_TEXT};
 

@@ -1,5 +1,7 @@
 // Jobs (the tasks of a table in ticks), runs, and the replies and answers of the calls that look at finished plans. The definitions of a running, of run
 // lists and of what these calls answer stand in specs/.
+#![tactic(auto)]
+
 ghost use Rattle.std.specs.Prelude.{◌≡◌, false, ℕ, ◌≤◌, ◌<◌, ltb};
 ghost use Rattle.base.specs.Limits.{max_tasks, max_runs, last_frame, max_launch, bad_period};
 ghost use Rattle.table.specs.Tables.{task_at};
@@ -12,7 +14,7 @@ use base::{MAX_RUNS, MAX_TASKS};
 use table::{Table, Task};
 
 // A task in ticks: its position, its window from the release tick, included, to the deadline tick, excluded, and its two lengths.
-#[derive(Drop)]
+#[derive(Clone, Copy)]
 pub struct Job {
     pub position: u32,
     pub release: u32,
@@ -33,7 +35,7 @@ pub const NO_JOB: Job = Job {
 // A run: its first tick, the tick after its last, and the task's position. The judge, the busy count and the queries are lent a list of them; a
 // planner writes them as three columns.
 #[repr(C)]
-#[derive(Drop)]
+#[derive(Clone, Copy)]
 pub struct Run {
     pub start: u32,
     pub end: u32,
@@ -49,7 +51,7 @@ pub const NO_RUN: Run = Run {
 
 // The reply of judging: the refusal's number and place; or 0, the verdict, and with a yes the counts kept and discarded.
 #[repr(C)]
-#[derive(Drop)]
+#[derive(Clone, Copy)]
 pub struct Judged {
     pub number: u32,
     pub place: usize,
@@ -60,7 +62,7 @@ pub struct Judged {
 
 // The reply of the busy count: the refusal's number and place, or 0 and the ticks of the interval that some run holds.
 #[repr(C)]
-#[derive(Drop)]
+#[derive(Clone, Copy)]
 pub struct Busy {
     pub number: u32,
     pub place: usize,
@@ -69,7 +71,7 @@ pub struct Busy {
 
 // What the check of a run list answers, before anything is counted in it or asked of it: it is accepted, or it has too many runs, or the run at an index
 // is the first that is out of order.
-#[derive(Drop)]
+#[derive(Clone, Copy)]
 pub enum RunsAnswer {
     Accepted,
     TooMany,
@@ -101,7 +103,7 @@ impl RunsAnswer {
 }
 
 // What a query for one run answers: the run, or that there is none; or what the check of the run list refuses.
-#[derive(Drop)]
+#[derive(Clone, Copy)]
 pub enum Found {
     One(Run),
     None,
@@ -161,7 +163,7 @@ impl Found {
 
 // A stretch of a run list: its first index and how many runs. Of an empty one both are 0.
 #[repr(C)]
-#[derive(Drop)]
+#[derive(Clone, Copy)]
 pub struct Stretch {
     pub first: usize,
     pub runs: usize,

@@ -11,6 +11,8 @@
 // the runs of the stretch.
 //
 // The runs of a case stand in an array, and its first runs are lent to the entry points as a list of records.
+#![tactic(auto)]
+
 ghost use Rattle.std.specs.Prelude.{◌≤◌};
 ghost use Rattle.records.specs.RecordColumns.{LegalColumns};
 

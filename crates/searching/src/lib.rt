@@ -1,5 +1,7 @@
 // The search over run columns that every query rests on: a list that the check accepts is ordered, so that its starts rise, and so do its ends, and a run
 // is found by halving.
+#![tactic(auto)]
+
 ghost use Rattle.std.specs.Prelude.{◌≡◌, List, ℕ, ◌≤◌, ◌<◌, leb, length, get_or};
 ghost use Rattle.std.proofs.Math.Option.{none};
 ghost use Rattle.base.specs.Limits.{max_runs};

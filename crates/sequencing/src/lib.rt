@@ -4,6 +4,8 @@
 // that these are added up once a job: with M the mandatory ticks of a job and those before it, an end by the deadline is one by deadline - M beside
 // them, and that room is found once a job. A number of the next row is then one comparison with it for the job kept and one for it discarded. Where
 // every part can be kept, no row is made.
+#![tactic(auto)]
+
 ghost use Rattle.std.specs.Prelude.{◌≡◌, true, false, ℕ, ◌+◌, ◌-◌, ◌*◌, ◌≤◌, ◌<◌, min, max, length, get_or};
 ghost use Rattle.base.specs.Limits.{max_tasks, max_ticks};
 ghost use Rattle.base.specs.Arrays.{Distinct};
@@ -34,14 +36,14 @@ const FEW: usize = 16;
 const FEW_PLACES: usize = ROW_PLACES * (FEW + 1);
 
 // What a job asks of a time in a row: nothing of it starts before `from`, and nothing that ends later than `room` is in time.
-#[derive(Drop)]
+#[derive(Clone, Copy)]
 struct TimeLimits {
     pub from: u32,
     pub room: u32,
 }
 
 // What is counted while the rows are made: the most parts that a list that fits keeps, and all mandatory ticks.
-#[derive(Drop)]
+#[derive(Clone, Copy)]
 struct Counts {
     pub most: usize,
     pub mandatory: u32,

@@ -1,5 +1,7 @@
 // All tables of small sizes, and the rules of documents 01 and 02 on them by trying everything: every keep list, every tick, and every running. It knows
 // nothing of how the planner chooses and places.
+#![tactic(auto)]
+
 mod kinds;
 mod lists;
 mod nest_order;

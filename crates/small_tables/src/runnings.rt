@@ -82,7 +82,7 @@ fn discarded(tasks: [Task; PLACES], gains: [u32; GAINS], way: u32) -> u32 {
 }
 
 // All runnings of a table: how many there are, and the fewest parts that one of them discards, which is NO_RUNNING where there are none.
-#[derive(Drop)]
+#[derive(Clone, Copy)]
 pub struct Runnings {
     pub count: u32,
     pub fewest: u32,

@@ -8,7 +8,7 @@ pub const PLACES: usize = 4;
 // All tables of `count` tasks with a period, in which a task has one of some windows, mandatory ticks 0 to 1, and optional ticks from 0 to `optional`, 3
 // at most. The windows are those below from place `first` on, and `more` after it, 9 at most. The period is 1/1, 3/2 or 5/4, which are the rows 0 to 2 of the
 // ticks below. The tables are planned at the launch tick `launch`.
-#[derive(Drop)]
+#[derive(Clone, Copy)]
 pub struct Family {
     pub count: usize,
     pub p: u32,

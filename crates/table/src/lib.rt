@@ -1,5 +1,7 @@
 // The table value and its constructors; the widths and lengths of its file; the tests of its header; the rules for windows that reading and writing share;
 // the answers, and the reply of calls that write.
+#![tactic(auto)]
+
 ghost use Rattle.std.specs.Prelude.{◌≡◌, not, ◌≤◌, ◌<◌, min, length, get_or};
 ghost use Rattle.base.specs.Limits.{max_tasks, bad_period};
 ghost use Rattle.base.specs.Lowest.{lowest, some_below};
@@ -48,7 +50,7 @@ const GREATEST: u32 = 4_294_967_295;
 
 // A task: its window in frames, and its two lengths in ticks.
 #[repr(C)]
-#[derive(Drop)]
+#[derive(Clone, Copy)]
 pub struct Task {
     pub release: u32,
     pub deadline: u32,
@@ -66,7 +68,7 @@ pub const NO_TASK: Task = Task {
 
 // A table: how many tasks it has, its period p/q, and places for its tasks.
 #[repr(C)]
-#[derive(Drop)]
+#[derive(Clone, Copy)]
 pub struct Table {
     pub count: u32,
     pub p: u32,
@@ -75,14 +77,14 @@ pub struct Table {
 }
 
 // The frames of tasks in two columns: the release frames, and the deadline frames.
-#[derive(Drop)]
+#[derive(Clone, Copy)]
 struct FrameColumns {
     releases: [u32; MAX_TASKS],
     deadlines: [u32; MAX_TASKS],
 }
 
 // What reading answers: a case for each cause of a refusal, with its place where it has one of its own.
-#[derive(Drop)]
+#[derive(Clone, Copy)]
 pub enum Answer {
     Accepted,
     // Fewer than 4 bytes, or fewer than the count needs; the file's length.
@@ -104,7 +106,7 @@ pub enum Answer {
 }
 
 // The reply of reading: the answer, and the table.
-#[derive(Drop)]
+#[derive(Clone, Copy)]
 pub struct Reading {
     pub answer: Answer,
     pub table: Table,
@@ -112,7 +114,7 @@ pub struct Reading {
 
 // The reply of writing, of moving and of showing a file as text: the refusal's number and place, or 0 and the number of bytes written.
 #[repr(C)]
-#[derive(Drop)]
+#[derive(Clone, Copy)]
 pub struct Written {
     pub number: u32,
     pub place: usize,

@@ -2,6 +2,8 @@
 // `#` is a comment. What is printed starts with the case's title and the number and place of the answer.
 //
 // The last cases are about the comparisons that this program makes itself, each on values that are the same and on values that differ in one place.
+#![tactic(auto)]
+
 mod comparisons;
 mod lists;
 mod moves;

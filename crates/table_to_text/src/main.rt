@@ -1,4 +1,6 @@
 // The program: shows the table file on standard input as lines of text on standard output, or says on standard error why not.
+#![tactic(auto)]
+
 use libc::{STDERR_FILENO, STDIN_FILENO, STDOUT_FILENO};
 
 fn main() {

@@ -1,5 +1,7 @@
 // A table written by hand: from lines of text to a table value, plain or weighted, and from a refusal of writing back to the line it is about. One scan reads
 // both: `width` is how many numbers the line of a task has.
+#![tactic(auto)]
+
 ghost use Rattle.std.specs.Prelude.{◌≡◌, ◌+◌, ◌^◌, ◌≤◌, ◌<◌};
 ghost use Rattle.table.specs.Tables.{task_of};
 ghost use Rattle.lines.specs.Splitting.{is_blank, is_digit};
@@ -43,7 +45,7 @@ const LINE_NUMBERS: usize = WEIGHTED_NUMBERS;
 const LAST_TENTH: u32 = 99_999_999;
 
 // What was read of a line.
-#[derive(Drop)]
+#[derive(Clone, Copy)]
 struct Line {
     // It has a fault: what no line may have.
     pub bad: bool,
@@ -56,7 +58,7 @@ struct Line {
 }
 
 // What was read of a text.
-#[derive(Drop)]
+#[derive(Clone, Copy)]
 struct Scan {
     // The number of the line being read, from 1.
     pub line: usize,

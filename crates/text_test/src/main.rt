@@ -11,6 +11,8 @@
 // wrong line, how many numbers are due there, and then writing's reply in the same way.
 //
 // A line that starts with `Weighted`, `Into` or `Out` is the same of a weighted table; behind the tasks of a text the weights at those places are printed.
+#![tactic(auto)]
+
 mod conversions;
 
 ghost use Rattle.io.specs.Counts.{IsPrefixLen};

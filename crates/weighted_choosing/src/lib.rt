@@ -2,6 +2,8 @@
 // last: at each weight the least kept ticks of a list that fits and keeps just that weight, and HUGE where none does. The steps of such a row can fall, so
 // there is no rank: where a job is kept is one bit for each weight. The bits of all jobs at a weight stand in one word, and the marks are read back from the
 // outermost job inwards, as the definitions in choice have them.
+#![tactic(auto)]
+
 ghost use Rattle.std.specs.Prelude.{◌≡◌, true, ℕ, ◌+◌, ◌%◌, ◌^◌, ◌≤◌, ◌<◌, min, leb, length, get_or, replicate};
 ghost use Rattle.base.specs.Limits.{max_tasks, max_ticks, max_weight};
 ghost use Rattle.schedule.specs.JobArrays.{no_job, jobs_in, AllBounded};

@@ -1,4 +1,6 @@
 // The weighted table value, a table and beside it a weight for each task; the widths and lengths of its file; and the rules that reading and writing share.
+#![tactic(auto)]
+
 ghost use Rattle.std.specs.Prelude.{◌≡◌, ◌≤◌, length, get_or};
 ghost use Rattle.base.specs.Limits.{max_tasks};
 ghost use Rattle.table.specs.declared.Answer.TheVariants.{Weight};
@@ -21,14 +23,14 @@ pub const WEIGHTED_BYTES_READ: usize = MAX_WEIGHTED_FILE + 1;
 
 // A table whose tasks each carry a weight, by position.
 #[repr(C)]
-#[derive(Drop)]
+#[derive(Clone, Copy)]
 pub struct Weighted {
     pub table: Table,
     pub weights: [u32; MAX_TASKS],
 }
 
 // The reply of reading a weighted file: the answer, and the weighted table.
-#[derive(Drop)]
+#[derive(Clone, Copy)]
 pub struct WeightedReading {
     pub answer: Answer,
     pub weighted: Weighted,

@@ -1,5 +1,7 @@
 // Judging a keep list and a run list against a weighted table file (an entry point). The judge looks at no weight: on the table of an accepted file it is
 // that of plain tables, with its counts; only reading differs.
+#![tactic(auto)]
+
 ghost use Rattle.std.specs.Prelude.{◌≡◌};
 ghost use Rattle.schedule.specs.LentRuns.{OneLength, runs_before};
 ghost use Rattle.schedule.specs.Judging.{judge_reply, Sound};

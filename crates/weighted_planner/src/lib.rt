@@ -1,5 +1,7 @@
 // Planning a weighted table file (an entry point): weighted reading's refusals, then 14, 8 and 9, then the choice of optional parts by weight and the placing
 // of work, and the marks and runs in the lent lists. All but reading and the choice is what planner has.
+#![tactic(auto)]
+
 ghost use Rattle.std.specs.Prelude.{◌≡◌, true, ℕ, ◌≤◌, ◌<◌, get_or};
 ghost use Rattle.base.specs.Limits.{max_tasks, max_weight};
 ghost use Rattle.table.specs.Kinds.{is_nested};

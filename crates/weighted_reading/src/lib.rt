@@ -1,4 +1,6 @@
 // Reading a weighted table file (an entry point): which refusal is sent, and which weighted table is read.
+#![tactic(auto)]
+
 ghost use Rattle.std.specs.Prelude.{◌≡◌, ◌+◌, ◌*◌, ◌^◌, ◌≤◌, ◌<◌, length, get_or};
 ghost use Rattle.base.specs.Limits.{max_tasks};
 ghost use Rattle.bits.specs.Rows.{fields_from};
@@ -15,7 +17,7 @@ use table::{Answer, HEADER_WIDTH, NO_TASK, Reading, Table, Task};
 use weighted_file::{WEIGHT_WIDTH, WEIGHTED_WIDTH, Weighted, WeightedReading};
 
 // A task that was read with its weight, and the cursor at the bit after both.
-#[derive(Drop)]
+#[derive(Clone, Copy)]
 struct TakenWeighted {
     task: Task,
     weight: u32,

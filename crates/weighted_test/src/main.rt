@@ -5,6 +5,8 @@
 // 77 where nothing was written; and what the weighted judge says of it: number, place, 1 for yes or 0 for no, kept and discarded.
 //
 // The expected output was worked out by a program in another language, written from documents 01 and 02: it tries every keep list.
+#![tactic(auto)]
+
 mod judges;
 mod lists;
 mod planning;

@@ -1,4 +1,6 @@
 // Writing a weighted table (an entry point): which refusal is sent, and the file that is written.
+#![tactic(auto)]
+
 ghost use Rattle.std.specs.Prelude.{◌≡◌, [], ◌∷◌, ◌++◌, ◌+◌, ◌*◌, ◌^◌, ◌≤◌, ◌<◌, length};
 ghost use Rattle.base.specs.Limits.{max_tasks};
 ghost use Rattle.base.specs.Lent.{written_front};
