@@ -1,0 +1,5 @@
+-- Each call is on a tenth of the number.
+use Rattle.lines.proofs.+put_decimal.Given as goal
+
+abbrev pub decreases-put_decimal : goal.decreases-put_decimal
+decreases-put_decimal l = l.n
