@@ -46,7 +46,7 @@ def text_of(path):
 
 
 def is_walk(path):
-    return os.path.basename(path) in ("Proof.antt", "Answers.antt", "Invariants.antt")
+    return "/specs/" not in path and os.path.basename(path) in ("Proof.antt", "Answers.antt", "Invariants.antt")
 
 
 def declared(root):

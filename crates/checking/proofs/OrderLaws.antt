@@ -23,10 +23,10 @@ use Rattle.schedule.proofs.ColumnLaws.{columns_length, start_at_lem, end_at}
 use Rattle.schedule.proofs.CheckLaws.{accepted_known}
 
 -- in the `else` branch of a `let .. else` on the check's answer the list is refused
-pub told_refused : (answer : RunsAnswer) → OneOf (1 ∷ 2 ∷ []) (tag_of the_type answer) → runs_accepted answer ≡ false
-told_refused checked.Accepted o = absurd (miss (1 ∷ 2 ∷ []) 0 tt o)
-told_refused checked.TooMany o = refl
-told_refused (checked.OutOfOrder index) o = refl
+pub told_refused : (answer : RunsAnswer) → (answer ≡ checked.Accepted → ⊥) → runs_accepted answer ≡ false
+told_refused checked.Accepted other = absurd (other refl)
+told_refused checked.TooMany other = refl
+told_refused (checked.OutOfOrder index) other = refl
 
 -- the end before index k, and the test of an index, by the columns: the tasks play no part
 abbrev pub end_before : List ℕ → ℕ → ℕ

@@ -12,7 +12,7 @@ use Rattle.base.specs.Limits.{bad_period}
 use Rattle.bits.specs.Bits.{Bytes}
 use Rattle.table.specs.declared.Answer.{Answer}
 use Rattle.table.specs.declared.Written.{Written}
-use Rattle.table.specs.Answers.{isAccepted, wrote}
+use Rattle.table.specs.Answers.{is_accepted, wrote}
 use Rattle.table.specs.Layout.{file_length, bad_count}
 use Rattle.table.specs.Kinds.{table_windows_answer}
 use Rattle.table.specs.Writing.{first_too_wide, rows_reply, write_reply}
@@ -51,7 +51,7 @@ rows_fit count p q wide rules needed room =
     (λ b.
     pick_cases (λ (r : Written). r.bytes ≤ room) (ltb wide count) (λ d. omega arith)
     (λ d.
-    pick_cases (λ (r : Written). r.bytes ≤ room) (isAccepted rules)
+    pick_cases (λ (r : Written). r.bytes ≤ room) (is_accepted rules)
     (λ e. pick_cases (λ (r : Written). r.bytes ≤ room) (ltb room needed) (λ f. omega arith) (λ f. omega (arith, ltb-false room needed f)))
     (λ e. omega arith))))
 

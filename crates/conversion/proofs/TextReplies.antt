@@ -25,7 +25,7 @@ use Rattle.table.proofs.AnswerLaws.{refused_number, accepted_is}
 use Rattle.table.proofs.FileLaws.{legal_count}
 use Rattle.table.proofs.RoundTrip.{read_legal}
 use Rattle.table.proofs.PrefixLaws as plain
-use Rattle.table.specs.Answers.{number_of, place_of, isAccepted, declined, wrote}
+use Rattle.table.specs.Answers.{number_of, place_of, is_accepted, declined, wrote}
 use Rattle.table.specs.Reading.{table_in, read_answer}
 use Rattle.weighted_file.specs.declared.Weighted.{Weighted}
 use Rattle.weighted_file.specs.Weights.{max_weighted_file, weighted_bytes_read, weighted_row, weighted_in, weighted_answer}
@@ -54,7 +54,7 @@ use Rattle.conversion.specs.Showing.{shown_row, shown_text}
 -- Of an answer of reading and the text of what was read.
 module _ (bound : ℕ) (answer : Answer) (text : List ℕ) where
   -- what reading refuses
-  pub text_refused : (room : ℕ) → isAccepted answer ≡ false → declined (number_of answer) (place_of answer) ≡ shown_reply bound answer text room
+  pub text_refused : (room : ℕ) → is_accepted answer ≡ false → declined (number_of answer) (place_of answer) ≡ shown_reply bound answer text room
   unfolding shown_reply
   text_refused room e = rw e
 
@@ -86,7 +86,7 @@ module _ (bound : ℕ) (answer : Answer) (text : List ℕ) where
   text-replied : (room : ℕ) → (shown_reply bound answer text room).number ≡ 0 → (answer ≡ Accepted) × (shown_reply bound answer text room ≡ wrote (length text))
   unfolding shown_reply
   text-replied room =
-      cases (isAccepted answer)
+      cases (is_accepted answer)
       (λ a. rw a (cases (ltb room bound) (λ l. rw l (λ z. absurd (omega arith))) (λ l. rw l (λ z. (accepted_is answer a, refl)))))
       (λ a. rw a (λ z. absurd (eqb-false (number_of answer) 0 (refused_number answer a) z)))
 
@@ -95,7 +95,7 @@ pub text_same : (bound : ℕ) (a b : Answer) (s t out : List ℕ) → a ≡ b �
     → (shown_reply bound a s (length out) ≡ shown_reply bound b t (length out)) × (shown_over bound a s out ≡ shown_over bound b t out)
 unfolding shown_over content_after
 text_same bound a b s t out e same =
-    cases (isAccepted b)
+    cases (is_accepted b)
     (λ h.
     let texts : s ≡ t = same (accepted_is b h) in
     (rw (e, texts), rw (e, texts)))
@@ -117,7 +117,7 @@ pub record TextForm : Type 1 where
   pub within : (file : List ℕ) → answer file ≡ Accepted → length (text file) ≤ bound
   pub restores : (file : List ℕ) → Bytes file → answer file ≡ Accepted → Restores file (text file)
   -- a longer file is refused, and what is said of any follows from its first bytes
-  pub long : (file : List ℕ) → most < length file → isAccepted (answer file) ≡ false
+  pub long : (file : List ℕ) → most < length file → is_accepted (answer file) ≡ false
   pub prefix : (file : List ℕ) → answer (take (most + 1) file) ≡ answer file
 
 module _ (F : TextForm) where
@@ -143,7 +143,7 @@ module _ (F : TextForm) where
   unfolding shown_reply
   text_fits file room reply e =
       rw e
-      (cases (isAccepted (F.answer file))
+      (cases (is_accepted (F.answer file))
       (λ a.
       rw a
       (cases (ltb room F.bound) (λ l. rw l (omega arith))
@@ -157,7 +157,7 @@ module _ (F : TextForm) where
       elim (dec_lt F.most (length file)) [
         | yes h ↦
             text_same F.bound (F.answer (take (F.most + 1) file)) (F.answer file) (F.text (take (F.most + 1) file)) (F.text file) out (F.prefix file)
-            (λ a. both_absurd (isAccepted (F.answer file)) (ap isAccepted a) (F.long file h))
+            (λ a. both_absurd (is_accepted (F.answer file)) (ap is_accepted a) (F.long file h))
         | no h ↦
             let all = take_all (F.most + 1) file (omega arith) in
             (ap (λ (s : List ℕ). reply_of s (length out)) all, ap (λ (s : List ℕ). over_of s out) all)
@@ -168,7 +168,7 @@ module _ (F : TextForm) where
   shown-whole file room z =
       elim (dec_lt F.most (length file)) [
         | yes h ↦
-            both_absurd (isAccepted (F.answer file)) (ap isAccepted (text-replied F.bound (F.answer file) (F.text file) room z).0) (F.long file h)
+            both_absurd (is_accepted (F.answer file)) (ap is_accepted (text-replied F.bound (F.answer file) (F.text file) room z).0) (F.long file h)
         | no h ↦ take_all (F.most + 1) file (omega arith)
       ]
 

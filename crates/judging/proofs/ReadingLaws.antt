@@ -6,7 +6,7 @@ use Rattle.base.proofs.TestLaws.{cases}
 use Rattle.table.specs.declared.Answer.{Answer}
 use Rattle.table.specs.declared.Reading.{Reading}
 use Rattle.table.specs.declared.Table.{Table}
-use Rattle.table.specs.Answers.{number_of, place_of, isAccepted}
+use Rattle.table.specs.Answers.{number_of, place_of, is_accepted}
 use Rattle.table.specs.Reading.{ReadTable, plain_read, read_reply}
 use Rattle.table.specs.Writing.{Legal}
 use Rattle.table.specs.LegalReads.{LegalRead, taken_from, Reads}
@@ -26,11 +26,11 @@ module _ (read : ReadTable) (reading : Reading) (reads : Reads read reading) whe
   -- and the judge replies on it as on the file
   pub reads_judged : (launch : ℕ) (marks : List ℕ) (runs : List Run) → judge_reply launch (taken_from reading) marks runs ≡ judge_reply launch read marks runs
   reads_judged launch marks runs =
-      cases (isAccepted read.answer)
+      cases (is_accepted read.answer)
       (λ e. let accepted = accepted_is read.answer e in
       sym (read_accepted launch (taken_from reading) marks runs (reads.answer ∙ accepted))
       ∙ (ap (λ (t : Table). judge_table launch t marks runs) (reads.table accepted) ∙ read_accepted launch read marks runs accepted))
-      (λ e. sym (read_refused launch (taken_from reading) marks runs (ap isAccepted reads.answer ∙ e))
+      (λ e. sym (read_refused launch (taken_from reading) marks runs (ap is_accepted reads.answer ∙ e))
       ∙ (ap (λ (a : Answer). judge_declined (number_of a) (place_of a)) reads.answer ∙ read_refused launch read marks runs e))
 
 -- what `reading::read` replies is such a reading

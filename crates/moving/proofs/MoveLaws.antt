@@ -16,7 +16,7 @@ use Rattle.table.specs.declared.Table.{Table}
 use Rattle.table.specs.declared.Written.{Written}
 use Rattle.table.specs.declared.Answer.TheVariants.{Accepted}
 use Rattle.table.specs.Tables.{no_task, task_at, table_of}
-use Rattle.table.specs.Answers.{number_of, place_of, isAccepted, declined, wrote}
+use Rattle.table.specs.Answers.{number_of, place_of, is_accepted, declined, wrote}
 use Rattle.table.specs.Reading.{table_in, read_answer}
 use Rattle.table.specs.Writing.{file_of}
 use Rattle.table.specs.Moving.{moved_task, moved_outside, first_outside, moved_table, move_reply, moved_over}
@@ -42,7 +42,7 @@ unfolding moved_over
 refused_keeps s shift out reply e n = content.refused_keeps _ reply _ out e n
 
 module _ (s : List ℕ) (shift : ℤ) (room : ℕ) where
-  pub read_refused : isAccepted (read_answer s) ≡ false → declined (number_of (read_answer s)) (place_of (read_answer s)) ≡ move_reply s shift room
+  pub read_refused : is_accepted (read_answer s) ≡ false → declined (number_of (read_answer s)) (place_of (read_answer s)) ≡ move_reply s shift room
   unfolding move_reply
   read_refused e = rw e
 

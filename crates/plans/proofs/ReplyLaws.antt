@@ -15,7 +15,7 @@ use Rattle.table.specs.declared.Table.{Table}
 use Rattle.table.specs.declared.Answer.TheVariants.{Accepted}
 use Rattle.table.specs.Kinds.{is_nested}
 use Rattle.table.specs.Writing.{Legal}
-use Rattle.table.specs.Answers.{number_of, place_of, isAccepted}
+use Rattle.table.specs.Answers.{number_of, place_of, is_accepted}
 use Rattle.table.specs.Reading.{ReadTable, plain_read}
 use Rattle.table.specs.LegalReads.{LegalRead}
 use Rattle.table.proofs.AnswerLaws.{refused_number, never_eight, accepted_is}
@@ -115,7 +115,7 @@ abbrev plan_written : ℕ → (ℕ → ℕ) → Table → LentLists → LentList
 plan_written launch weight t lists = written_by (is_nested t) weight t.count (jobs_last_first launch t) lists
 
 -- The replies on a file: what reading refuses, and what its table gets.
-pub file_refused : (launch : ℕ) (read : ReadTable) (lists : LentLists) → isAccepted read.answer ≡ false
+pub file_refused : (launch : ℕ) (read : ReadTable) (lists : LentLists) → is_accepted read.answer ≡ false
     → plan_reply launch read lists ≡ plan_declined (number_of read.answer) (place_of read.answer)
 unfolding plan_reply
 file_refused launch read lists e = rw e
@@ -148,7 +148,7 @@ pub record Made (launch : ℕ) (read : ReadTable) (reply : Planned) : Type 0 whe
 pub plan_made_lem : (launch : ℕ) (read : ReadTable) → LegalRead read → (lists : LentLists) → (plan_reply launch read lists).number ≡ 0 → Made launch read (plan_reply launch read lists)
 unfolding plan_reply
 plan_made_lem launch read lawful lists =
-    cases (isAccepted read.answer)
+    cases (is_accepted read.answer)
     (λ e.
     rw e
     (λ z.
@@ -276,6 +276,6 @@ table_first launch weight t legal lists =
 pub plan_first : (launch : ℕ) (read : ReadTable) → LegalRead read → (lists : LentLists) → EightFirst launch read (plan_reply launch read lists)
 unfolding plan_reply
 plan_first launch read lawful lists =
-    cases (isAccepted read.answer)
+    cases (is_accepted read.answer)
     (λ e. rw e (table_first launch read.weight read.table (lawful (accepted_is read.answer e)) lists))
     (λ e. rw e (λ z. absurd (never_eight read.answer z)))

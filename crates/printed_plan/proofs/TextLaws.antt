@@ -15,7 +15,7 @@ use Rattle.lines.specs.Text.{line}
 use Rattle.lines.proofs.LineLaws.{line_few}
 use Rattle.table.specs.declared.Table.{Table}
 use Rattle.table.specs.Layout.{max_file, file_bytes_read}
-use Rattle.table.specs.Answers.{number_of, place_of, isAccepted}
+use Rattle.table.specs.Answers.{number_of, place_of, is_accepted}
 use Rattle.table.specs.Reading.{one_each, plain_read, table_in, read_answer}
 use Rattle.table.proofs.AnswerLaws.{refused_number}
 use Rattle.table.proofs.FileLaws.{legal_count}
@@ -96,7 +96,7 @@ module _ (of : Table → List ℕ) (launch : ℕ) where
   file_text_refused file reply e z = rw (← e, ne_eqb reply.number 0 z)
 
   -- So of a file that reading refuses.
-  file-text-unread : (file : List ℕ) → isAccepted (read_answer file) ≡ false
+  file-text-unread : (file : List ℕ) → is_accepted (read_answer file) ≡ false
       → refusal_text (number_of (read_answer file)) (place_of (read_answer file)) ≡ file_text of launch file
   unfolding long_reply
   file-text-unread file e =
@@ -110,7 +110,7 @@ module _ (of : Table → List ℕ) (launch : ℕ) where
         | yes h ↦
             let same = read_prefix file in
             let bad = long_refused file h in
-            sym (file-text-unread (take file_bytes_read file) (ap isAccepted same ∙ bad))
+            sym (file-text-unread (take file_bytes_read file) (ap is_accepted same ∙ bad))
             ∙ (ap₂ refusal_text (ap number_of same) (ap place_of same) ∙ file-text-unread file bad)
         | no h ↦ ap (file_text of launch) (take_all file_bytes_read file (omega arith))
       ]

@@ -13,7 +13,7 @@ use Rattle.table.specs.declared.Answer.TheVariants.{Accepted, Window}
 use Rattle.table.specs.declared.Reading.{Reading}
 use Rattle.table.specs.Tables.{task_at, no_table, table_of}
 use Rattle.table.specs.Layout.{task_widths, task_start}
-use Rattle.table.specs.Answers.{isAccepted}
+use Rattle.table.specs.Answers.{is_accepted}
 use Rattle.table.specs.Windows.{bad_window}
 use Rattle.table.specs.Kinds.{is_nested, is_similar, bad_window_answer, windows_answer, table_windows_answer}
 use Rattle.table.specs.Reading.{count_in, p_in, q_in, task_from, task_in, table_in, head_answer, read_answer}
@@ -25,7 +25,7 @@ use Rattle.reading.specs.AnyKind.{any_kind_answer, any_kind_reply}
 use Rattle.reading.proofs.ReadLaws.{head_few, head_accepted}
 
 -- What it answers: a header that is refused gives the answer,
-any_kind_head : (s : List ℕ) → isAccepted (head_answer s) ≡ false → head_answer s ≡ any_kind_answer s
+any_kind_head : (s : List ℕ) → is_accepted (head_answer s) ≡ false → head_answer s ≡ any_kind_answer s
 unfolding any_kind_answer
 any_kind_head s e = rw e
 
@@ -35,7 +35,7 @@ unfolding any_kind_answer
 any_kind_windows s e = rw e
 
 -- So its reply on either is known by its answer and its table.
-pub reply_head : (r : Reading) (s : List ℕ) → isAccepted (head_answer s) ≡ false → r.answer ≡ head_answer s → r.table ≡ no_table → r ≡ any_kind_reply s
+pub reply_head : (r : Reading) (s : List ℕ) → is_accepted (head_answer s) ≡ false → r.answer ≡ head_answer s → r.table ≡ no_table → r ≡ any_kind_reply s
 unfolding any_kind_reply
 reply_head r s e a t =
     let table : r.table ≡ (any_kind_reply s).table = rw e t in
@@ -54,10 +54,10 @@ unfolding any_kind_reply
 any_kind_answer_lem r s e = ap (λ (r : Reading). r.answer) e
 
 -- What it refuses, reading refuses.
-pub any_kind_refused : (s : List ℕ) → isAccepted (any_kind_answer s) ≡ false → any_kind_answer s ≡ read_answer s
+pub any_kind_refused : (s : List ℕ) → is_accepted (any_kind_answer s) ≡ false → any_kind_answer s ≡ read_answer s
 unfolding any_kind_answer read_answer table_windows_answer windows_answer
 any_kind_refused s =
-    cases (isAccepted (head_answer s)) (λ e. rw e (λ f. rw f)) (λ e. rw e (λ f. refl))
+    cases (is_accepted (head_answer s)) (λ e. rw e (λ f. rw f)) (λ e. rw e (λ f. refl))
 
 -- Where it refuses nothing, neither the header nor a window that is bad is refused.
 any_kind_known : (s : List ℕ) → any_kind_answer s ≡ Accepted → (head_answer s ≡ Accepted) × (bad_window_answer (task_at (table_in s)) (table_in s).count ≡ Accepted)
@@ -105,13 +105,13 @@ any_kind_served s e o =
 
 -- Where it is of neither, reading refuses what the windows of the table answer.
 pub any_kind_neither : (s : List ℕ) → any_kind_answer s ≡ Accepted → or (is_nested (table_in s)) (is_similar (table_in s)) ≡ false
-    → (table_windows_answer (table_in s) ≡ read_answer s) × (isAccepted (read_answer s) ≡ false)
+    → (table_windows_answer (table_in s) ≡ read_answer s) × (is_accepted (read_answer s) ≡ false)
 any_kind_neither s e o =
     let n : Bool = is_nested (table_in s) in
     let m : Bool = is_similar (table_in s) in
     let same = head_accepted s (any_kind_known s e).0 in (
       same,
-      cases (isAccepted (read_answer s))
+      cases (is_accepted (read_answer s))
           (λ t.
           ⊎_elim (λ k. both_absurd n k (or_left n m o)) (λ k. both_absurd m k (or_right n m o))
           (window_known (table_in s) (same ∙ accepted_is (read_answer s) t)).kind)

@@ -17,7 +17,7 @@ use Rattle.table.specs.declared.Table.{Table}
 use Rattle.table.specs.declared.Reading.{Reading}
 use Rattle.table.specs.declared.Answer.TheVariants.{Accepted}
 use Rattle.table.specs.Tables.{no_task, no_table, task_at, table_of}
-use Rattle.table.specs.Answers.{isAccepted}
+use Rattle.table.specs.Answers.{is_accepted}
 use Rattle.table.specs.Layout.{header_width, task_width, row_start, task_start}
 use Rattle.table.specs.Kinds.{windows_answer, table_windows_answer}
 use Rattle.table.specs.WindowColumns.{FramesOf}
@@ -91,7 +91,7 @@ unfolding head_answer
 head_bits_lem s e = front_bits task_width s e
 
 -- a header that is refused gives the answer
-pub head_refused : (s : List ℕ) → isAccepted (head_answer s) ≡ false → head_answer s ≡ read_answer s
+pub head_refused : (s : List ℕ) → is_accepted (head_answer s) ≡ false → head_answer s ≡ read_answer s
 unfolding read_answer
 head_refused s e = rw e
 
@@ -106,7 +106,7 @@ unfolding read_answer
 read_head s e = (first_refusal-known (head_answer s) (table_windows_answer (table_in s)) e).0
 
 -- the table of the reply, on a refusal and on none
-pub table_refused : (s : List ℕ) → isAccepted (read_answer s) ≡ false → no_table ≡ (read_reply s).table
+pub table_refused : (s : List ℕ) → is_accepted (read_answer s) ≡ false → no_table ≡ (read_reply s).table
 unfolding read_reply
 table_refused s e = rw e
 

@@ -12,10 +12,10 @@ use Rattle.records.specs.RecordColumns.{columns_of}
 use Rattle.record_calls.specs.declared.Answers.{Answers}
 
 -- answers by their parts
-abbrev pub gatheredOf : RunsAnswer → Found → Found → Busy → RunColumns → Answers
-gatheredOf check at from busy touching = record { check = check; at = at; from = from; busy = busy; touching = touching }
+abbrev pub gathered_of : RunsAnswer → Found → Found → Busy → RunColumns → Answers
+gathered_of check at from busy touching = record { check = check; at = at; from = from; busy = busy; touching = touching }
 
 -- the answers for a run list, a tick, and the interval from a to b
-abbrev pub answersOf : List Run → ℕ → ℕ → ℕ → Answers
-answersOf runs tick a b =
-    gatheredOf (check_answer runs) (run_at_tick runs tick) (run_from_tick runs tick) (busy_reply runs a b) (columns_of (touching runs a b))
+abbrev pub answers_of : List Run → ℕ → ℕ → ℕ → Answers
+answers_of runs tick a b =
+    gathered_of (check_answer runs) (run_at_tick runs tick) (run_from_tick runs tick) (busy_reply runs a b) (columns_of (touching runs a b))

@@ -6,7 +6,7 @@ ghost use Rattle.std.specs.Prelude.{◌≡◌, ◌≤◌, take};
 ghost use Rattle.records.specs.RecordColumns.{max_copied, LegalColumns, copied_runs};
 ghost use Rattle.table.specs.Reading.{plain_read};
 ghost use Rattle.schedule.specs.Judging.{judge_reply};
-ghost use Rattle.record_calls.specs.Answers.{gatheredOf, answersOf};
+ghost use Rattle.record_calls.specs.Answers.{gathered_of, answers_of};
 
 use records::{MAX_COPIED, RunColumns};
 use schedule::{Busy, Found, Judged, NO_RUN, Run, RunsAnswer};
@@ -43,7 +43,7 @@ pub fn rows_of(columns: RunColumns) -> [Run; MAX_COPIED]
 
 // Answers by their parts.
 fn gathered(check: RunsAnswer, at: Found, from: Found, busy: Busy, touching: RunColumns) -> Answers
-    ensures { result ≡ gatheredOf check at from busy touching }
+    ensures { result ≡ gathered_of check at from busy touching }
 {
     Answers {
         check,
@@ -57,7 +57,7 @@ fn gathered(check: RunsAnswer, at: Found, from: Found, busy: Busy, touching: Run
 // What the entry points answer for the first runs of an array.
 pub fn ask_rows(rows: [Run; MAX_COPIED], count: usize, tick: u32, a: u32, b: u32) -> Answers
     requires { count ≤ max_copied }
-    ensures { result ≡ answersOf (take count rows) tick a b }
+    ensures { result ≡ answers_of (take count rows) tick a b }
 {
     let runs = records::stretch(&rows, 0, count);
     let check = queries::check(runs);

@@ -13,7 +13,7 @@ use Rattle.base.proofs.LowestLaws.{every_same}
 use Rattle.base.proofs.LowestLaws as lowest-laws
 use Rattle.base.specs.Members.{every_member}
 use Rattle.table.specs.declared.Table.{Table}
-use Rattle.table.specs.Answers.{isAccepted}
+use Rattle.table.specs.Answers.{is_accepted}
 use Rattle.table.specs.Reading.{ReadTable}
 use Rattle.schedule.specs.declared.Job.{Job}
 use Rattle.schedule.specs.declared.Run.{Run}
@@ -73,7 +73,7 @@ pub zero_marks_judged : (launch : ℕ) (read : ReadTable) (marks other : List �
 unfolding judge_reply
 zero_marks_judged launch read marks other runs h =
     let t = read.table in
-    cases (isAccepted read.answer)
+    cases (is_accepted read.answer)
     (λ e.
     rw e
     (λ a b.

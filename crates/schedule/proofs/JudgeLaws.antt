@@ -16,7 +16,7 @@ use Rattle.base.proofs.LowestLaws.{every_below_lem}
 use Rattle.clock.specs.Clock.{bad_launch}
 use Rattle.table.specs.declared.Table.{Table}
 use Rattle.table.specs.declared.Answer.{Answer}
-use Rattle.table.specs.Answers.{number_of, isAccepted}
+use Rattle.table.specs.Answers.{number_of, is_accepted}
 use Rattle.table.specs.Reading.{ReadTable}
 use Rattle.table.proofs.AnswerLaws.{refused_number}
 use Rattle.schedule.specs.declared.Job.{Job}
@@ -268,7 +268,7 @@ table_says launch t marks runs =
     (λ f. rw f (cases (too_many runs) (λ g. rw g (λ z. absurd (omega arith))) (λ g. rw g (λ z. refl))))))))
 
 -- a refusal of reading has a number
-refused_nonzero : (a : Answer) → isAccepted a ≡ false → number_of a ≡ 0 → ⊥
+refused_nonzero : (a : Answer) → is_accepted a ≡ false → number_of a ≡ 0 → ⊥
 refused_nonzero a e z = eqb-false (number_of a) 0 (refused_number a e) z
 
 -- Where the judge refuses nothing, it says yes exactly when the runs follow one another in time, none is empty, and list and runs together are
@@ -277,7 +277,7 @@ pub judge_sound : (launch : ℕ) (read : ReadTable) (marks : List ℕ) (runs : L
     → ((judge_reply launch read marks runs).yes ≡ true) ↔ Acceptable launch read.table marks runs
 unfolding judge_reply
 judge_sound launch read marks runs =
-    cases (isAccepted read.answer)
+    cases (is_accepted read.answer)
     (λ e.
     rw e
     (λ z.

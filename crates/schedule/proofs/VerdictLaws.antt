@@ -18,7 +18,7 @@ use Rattle.base.specs.Members.{every_member}
 use Rattle.clock.specs.Clock.{bad_launch}
 use Rattle.table.specs.declared.Table.{Table}
 use Rattle.table.specs.declared.Answer.TheVariants.{Accepted}
-use Rattle.table.specs.Answers.{number_of, place_of, isAccepted}
+use Rattle.table.specs.Answers.{number_of, place_of, is_accepted}
 use Rattle.table.specs.Reading.{ReadTable}
 use Rattle.schedule.specs.declared.Job.{Job}
 use Rattle.schedule.specs.declared.Judged.{Judged}
@@ -129,7 +129,7 @@ module _ (launch : ℕ) (t : Table) (marks : List ℕ) (runs : List Run) where
           says-no e = rw (accepted, eq-eqb (length marks) t.count long, le-ltb (first_bad_mark marks t.count) t.count good, few, e)
 
 -- a refusal of reading is the judge's
-pub read_refused : (launch : ℕ) (read : ReadTable) (marks : List ℕ) (runs : List Run) → isAccepted read.answer ≡ false
+pub read_refused : (launch : ℕ) (read : ReadTable) (marks : List ℕ) (runs : List Run) → is_accepted read.answer ≡ false
     → judge_declined (number_of read.answer) (place_of read.answer) ≡ judge_reply launch read marks runs
 unfolding judge_reply
 read_refused launch read marks runs e = rw e

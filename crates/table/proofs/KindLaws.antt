@@ -31,7 +31,7 @@ use Rattle.table.specs.Kinds.{
   nested_answer,
 }
 use Rattle.table.specs.WindowColumns.{greatest_number}
-use Rattle.table.specs.Answers.{firstRefusal}
+use Rattle.table.specs.Answers.{first_refusal}
 use Rattle.table.specs.Writing.{Legal}
 use Rattle.table.proofs.AnswerLaws.{first_refusal-known, first_refusal-test, none_refused, refused_none, refused_same}
 
@@ -282,7 +282,7 @@ pub nested_known : (own : Answer) (t : Table) → nested_answer own (task_at t) 
 unfolding nested_answer bad_window_answer nesting_answer is_nested
 nested_known own t e =
     let at : ℕ → Task = task_at t in
-    let z = first_refusal-known (bad_window_answer at t.count) (firstRefusal own (nesting_answer at t.count)) e in
+    let z = first_refusal-known (bad_window_answer at t.count) (first_refusal own (nesting_answer at t.count)) e in
     let rest = first_refusal-known own (nesting_answer at t.count) z.1 in
     let none = none_passes (fails_earlier nested at) t.count (refused_none Kind (λ k. refl) (fails_earlier nested at) t.count rest.1) in
     record {

@@ -18,7 +18,7 @@ use Rattle.table.specs.declared.Table.{Table}
 use Rattle.table.specs.declared.Answer.{Answer}
 use Rattle.table.specs.declared.Answer.TheVariants.{Accepted}
 use Rattle.table.specs.Tables.{task_at, table_of}
-use Rattle.table.specs.Answers.{number_of, place_of, isAccepted, declined, wrote}
+use Rattle.table.specs.Answers.{number_of, place_of, is_accepted, declined, wrote}
 use Rattle.table.specs.Windows.{bad_window, contains, nested, no_later, similar}
 use Rattle.table.specs.Kinds.{windows_answer, table_windows_answer}
 use Rattle.table.specs.Reading.{table_in, read_answer, read_reply}
@@ -191,7 +191,7 @@ moved_length s shift e = file_of-length (moved_table shift (table_in s)) ∙ rw 
 
 -- What moving tells by the number 0, from the tests that it makes.
 move_zero : (a : Answer) (b c : Bool) (n x : ℕ)
-    → (pick (isAccepted a) (pick b (declined 10 n) (pick c (declined 9 0) (wrote x))) (declined (number_of a) (place_of a))).number ≡ 0
+    → (pick (is_accepted a) (pick b (declined 10 n) (pick c (declined 9 0) (wrote x))) (declined (number_of a) (place_of a))).number ≡ 0
     → (a ≡ Accepted) × (b ≡ false) × (c ≡ false)
 move_zero a true c n x e = absurd (omega (arith, (reply_known a (declined 10 n) e).1))
 move_zero a false true n x e = absurd (omega (arith, (reply_known a (declined 9 0) e).1))

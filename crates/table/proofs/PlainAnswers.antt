@@ -15,7 +15,7 @@ use Rattle.table.specs.declared.Answer.{Answer}
 use Rattle.table.specs.declared.Answer.TheVariants.{Window, Kind, Weight}
 use Rattle.table.specs.Tables.{task_at}
 use Rattle.table.specs.Layout.{task_width, rows_length, bad_count}
-use Rattle.table.specs.Answers.{number_of, isAccepted, firstRefusal, lowestRefusal}
+use Rattle.table.specs.Answers.{number_of, is_accepted, first_refusal, lowest_refusal}
 use Rattle.table.specs.Windows.{bad_window}
 use Rattle.table.specs.Kinds.{of_neither_kind, bad_window_answer, kind_answer, windows_answer, table_windows_answer}
 use Rattle.table.specs.Reading.{count_in, p_in, q_in, padding_set, front_answer, table_in, head_answer, read_answer}
@@ -25,11 +25,11 @@ abbrev Plain : Answer → Type 0
 Plain answer = number_of answer ≤ 7
 
 -- two such answers come to one
-first_plain : (a b : Answer) → Plain a → Plain b → Plain (firstRefusal a b)
-first_plain a b p q = pick_cases Plain (isAccepted a) (λ e. q) (λ e. p)
+first_plain : (a b : Answer) → Plain a → Plain b → Plain (first_refusal a b)
+first_plain a b p q = pick_cases Plain (is_accepted a) (λ e. q) (λ e. p)
 
 -- so does a search for the position of one
-lowest_plain : (refusal : ℕ → Answer) → ((k : ℕ) → Plain (refusal k)) → (test : ℕ → Bool) (n : ℕ) → Plain (lowestRefusal refusal test n)
+lowest_plain : (refusal : ℕ → Answer) → ((k : ℕ) → Plain (refusal k)) → (test : ℕ → Bool) (n : ℕ) → Plain (lowest_refusal refusal test n)
 lowest_plain refusal p test n = pick_cases Plain (ltb (lowest test n) n) (λ e. p (lowest test n)) (λ e. omega arith)
 
 -- the refusals that need no row are such

@@ -32,24 +32,24 @@ place_of (Kind position) = position
 place_of (Weight position) = position
 
 -- nothing is refused
-abbrev pub isAccepted : Answer → Bool
-isAccepted Accepted = true
-isAccepted (Short length) = false
-isAccepted Count = false
-isAccepted (Long needed) = false
-isAccepted Padding = false
-isAccepted Period = false
-isAccepted (Window position) = false
-isAccepted (Kind position) = false
-isAccepted (Weight position) = false
+abbrev pub is_accepted : Answer → Bool
+is_accepted Accepted = true
+is_accepted (Short length) = false
+is_accepted Count = false
+is_accepted (Long needed) = false
+is_accepted Padding = false
+is_accepted Period = false
+is_accepted (Window position) = false
+is_accepted (Kind position) = false
+is_accepted (Weight position) = false
 
 -- what two answers come to, one after the other: the first where it refuses, and else the second
-abbrev pub firstRefusal : Answer → Answer → Answer
-firstRefusal first second = pick (isAccepted first) second first
+abbrev pub first_refusal : Answer → Answer → Answer
+first_refusal first second = pick (is_accepted first) second first
 
 -- the refusal that names the lowest position below n that passes a test; where none does, nothing is refused
-abbrev pub lowestRefusal : (ℕ → Answer) → (ℕ → Bool) → ℕ → Answer
-lowestRefusal refusal test n = pick (ltb (lowest test n) n) (refusal (lowest test n)) Accepted
+abbrev pub lowest_refusal : (ℕ → Answer) → (ℕ → Bool) → ℕ → Answer
+lowest_refusal refusal test n = pick (ltb (lowest test n) n) (refusal (lowest test n)) Accepted
 
 -- the reply of a call that writes bytes (writing, moving, a table as text) where it refuses, and the one that reports bytes written: parts that are not named
 -- are 0

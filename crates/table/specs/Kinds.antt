@@ -7,7 +7,7 @@ use Rattle.table.specs.declared.Table.{Table}
 use Rattle.table.specs.declared.Answer.{Answer}
 use Rattle.table.specs.declared.Answer.TheVariants.{Window, Kind}
 use Rattle.table.specs.Tables.{task_at}
-use Rattle.table.specs.Answers.{firstRefusal, lowestRefusal}
+use Rattle.table.specs.Answers.{first_refusal, lowest_refusal}
 use Rattle.table.specs.Windows.{bad_window, nested, similar}
 
 -- the task at position k fails a test of pairs with some earlier one
@@ -32,15 +32,15 @@ of_neither_kind at k = and (not (pairwise nested at (suc k))) (not (pairwise sim
 
 -- 6 for the lowest position below n whose window is bad
 unfoldable pub bad_window_answer : (ℕ → Task) → ℕ → Answer
-bad_window_answer at n = lowestRefusal Window (λ k. bad_window (at k)) n
+bad_window_answer at n = lowest_refusal Window (λ k. bad_window (at k)) n
 
 -- 7 for 'the lowest position such that the table cut after it is of neither kind'
 unfoldable pub kind_answer : (ℕ → Task) → ℕ → Answer
-kind_answer at n = lowestRefusal Kind (of_neither_kind at) n
+kind_answer at n = lowest_refusal Kind (of_neither_kind at) n
 
 -- what the windows of the first n tasks answer: 6, and else 7
 unfoldable pub windows_answer : (ℕ → Task) → ℕ → Answer
-windows_answer at n = firstRefusal (bad_window_answer at n) (kind_answer at n)
+windows_answer at n = first_refusal (bad_window_answer at n) (kind_answer at n)
 
 -- what the windows of a table answer
 unfoldable pub table_windows_answer : Table → Answer
@@ -48,8 +48,8 @@ table_windows_answer t = windows_answer (task_at t) t.count
 
 -- 7 as document 01 has it, for forms of table that are nested alone: the lowest position that is not nested with some earlier one
 unfoldable pub nesting_answer : (ℕ → Task) → ℕ → Answer
-nesting_answer at n = lowestRefusal Kind (fails_earlier nested at) n
+nesting_answer at n = lowest_refusal Kind (fails_earlier nested at) n
 
 -- what the tasks of such a form answer: 6, then a rule of the form's own, then 7
 unfoldable pub nested_answer : Answer → (ℕ → Task) → ℕ → Answer
-nested_answer own at n = firstRefusal (bad_window_answer at n) (firstRefusal own (nesting_answer at n))
+nested_answer own at n = first_refusal (bad_window_answer at n) (first_refusal own (nesting_answer at n))

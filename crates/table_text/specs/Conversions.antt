@@ -4,7 +4,7 @@ use Rattle.base.specs.Tests.{pick}
 use Rattle.base.specs.Lent.{content_after}
 use Rattle.table.specs.declared.Answer.{Answer}
 use Rattle.table.specs.declared.Written.{Written}
-use Rattle.table.specs.Answers.{number_of, place_of, isAccepted, declined, wrote}
+use Rattle.table.specs.Answers.{number_of, place_of, is_accepted, declined, wrote}
 use Rattle.table.specs.Reading.{table_in, read_answer}
 use Rattle.table.specs.Writing.{file_of, write_reply, written_over}
 use Rattle.weighted_file.specs.Weights.{weighted_in, weighted_answer, file_of_weighted, weighted_write_reply, weighted_written_over}
@@ -18,7 +18,7 @@ use Rattle.table_text.specs.WeightedText.{weighted_parse_reply, right_weighted, 
 -- than the bound of every text, and else the bytes of the text
 unfoldable pub shown_reply : ℕ → Answer → List ℕ → ℕ → Written
 shown_reply bound answer text room =
-    pick (isAccepted answer) (pick (ltb room bound) (declined 9 0) (wrote (length text))) (declined (number_of answer) (place_of answer))
+    pick (is_accepted answer) (pick (ltb room bound) (declined 9 0) (wrote (length text))) (declined (number_of answer) (place_of answer))
 
 -- what the list holds then: a refusal leaves it as it was
 unfoldable pub shown_over : ℕ → Answer → List ℕ → List ℕ → List ℕ

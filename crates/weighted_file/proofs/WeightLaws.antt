@@ -19,7 +19,7 @@ use Rattle.table.specs.declared.Task.{Task}
 use Rattle.table.specs.declared.Answer.TheVariants.{Accepted, Weight}
 use Rattle.table.specs.Tables.{task_at, table_of, task_of}
 use Rattle.table.specs.Layout.{row_start, rows_length}
-use Rattle.table.specs.Answers.{isAccepted, wrote}
+use Rattle.table.specs.Answers.{is_accepted, wrote}
 use Rattle.table.specs.Kinds.{is_nested, nested_answer}
 use Rattle.table.specs.Reading.{count_in, p_in, q_in, table_in, read_answer}
 use Rattle.table.specs.Writing.{file_of, too_wide, first_too_wide, Legal}
@@ -168,7 +168,7 @@ unfolding bytes_for weighted_length
 file_few count h = omega arith
 
 -- what reading says of a longer file is a refusal,
-pub long_refused : (s : List ℕ) → max_weighted_file < length s → isAccepted (weighted_answer s) ≡ false
+pub long_refused : (s : List ℕ) → max_weighted_file < length s → is_accepted (weighted_answer s) ≡ false
 unfolding weighted_answer weighted_in
 long_refused s h = rows.long_refused weighted max_weighted_file file_few s h
 

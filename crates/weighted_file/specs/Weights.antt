@@ -11,7 +11,7 @@ use Rattle.table.specs.declared.Answer.TheVariants.{Weight}
 use Rattle.table.specs.declared.Written.{Written}
 use Rattle.table.specs.Tables.{task_at, table_of, task_row, task_of, no_table, Same}
 use Rattle.table.specs.Layout.{task_widths, row_start, rows_length}
-use Rattle.table.specs.Answers.{isAccepted, firstRefusal, lowestRefusal}
+use Rattle.table.specs.Answers.{is_accepted, first_refusal, lowest_refusal}
 use Rattle.table.specs.Kinds.{nested_answer}
 use Rattle.table.specs.Reading.{count_in, p_in, q_in, front_answer, ReadTable}
 use Rattle.table.specs.Writing.{rows_file, first_too_wide, rows_reply}
@@ -77,7 +77,7 @@ bad_weight weight = or (eqb weight 0) (ltb max_weight weight)
 
 -- 16 for the lowest position with such a weight
 unfoldable pub weight_answer : Weighted → Answer
-weight_answer w = lowestRefusal Weight (λ k. bad_weight (weight_at w k)) w.table.count
+weight_answer w = lowest_refusal Weight (λ k. bad_weight (weight_at w k)) w.table.count
 
 -- what the windows and the weights answer, 16 'after 6 and before 7': 6, 16, 7 as document 01 has it
 unfoldable pub weighted_rules : Weighted → Answer
@@ -85,11 +85,11 @@ weighted_rules w = nested_answer (weight_answer w) (task_at w.table) w.table.cou
 
 -- the answer of reading: the refusals that need no row, 1 for under 4 bytes, 2, 1, 3, 4, 5, and where there is none 6, 16, 7
 unfoldable pub weighted_answer : List ℕ → Answer
-weighted_answer s = firstRefusal (front_answer weighted_width s) (weighted_rules (weighted_in s))
+weighted_answer s = first_refusal (front_answer weighted_width s) (weighted_rules (weighted_in s))
 
 -- the reply of reading: a refused reading returns a weighted table that is 0 throughout
 unfoldable pub weighted_read_reply : List ℕ → WeightedReading
-weighted_read_reply s = record { answer = weighted_answer s; weighted = pick (isAccepted (weighted_answer s)) (weighted_in s) no_weighted }
+weighted_read_reply s = record { answer = weighted_answer s; weighted = pick (is_accepted (weighted_answer s)) (weighted_in s) no_weighted }
 
 -- the reply of writing into a list of `room` bytes: 2, 5, 12, 6, 16, 7, 9; '12 does not look at weights'
 unfoldable pub weighted_write_reply : Weighted → ℕ → Written

@@ -4,7 +4,7 @@
 ghost use Rattle.std.specs.Prelude.{◌≡◌, ◌≤◌, length, get_or};
 ghost use Rattle.base.specs.Limits.{max_tasks};
 ghost use Rattle.table.specs.declared.Answer.TheVariants.{Weight};
-ghost use Rattle.table.specs.Answers.{lowestRefusal};
+ghost use Rattle.table.specs.Answers.{lowest_refusal};
 ghost use Rattle.weighted_file.specs.Weights.{no_weighted, bad_weight, weighted_rules};
 
 use base::{MAX_TASKS, MAX_WEIGHT};
@@ -46,7 +46,7 @@ fn bad_weight(weight: u32) -> bool
 // The first of the weights in a column that is bad, as an answer.
 fn weight_answer(weights: &[u32], count: usize) -> Answer
     requires { count ≤ length weights.now }
-    ensures { result ≡ lowestRefusal Weight (λ k. bad_weight (get_or weights.now k 0)) count }
+    ensures { result ≡ lowest_refusal Weight (λ k. bad_weight (get_or weights.now k 0)) count }
 {
     let mut k: usize = 0;
     while k < count {

@@ -13,7 +13,7 @@ use Rattle.bits.specs.Rows.{fields_from}
 use Rattle.table.specs.declared.Answer.TheVariants.{Accepted}
 use Rattle.table.specs.Tables.{no_task, table_of, task_of}
 use Rattle.table.specs.Layout.{row_start}
-use Rattle.table.specs.Answers.{isAccepted}
+use Rattle.table.specs.Answers.{is_accepted}
 use Rattle.table.specs.Reading.{count_in, p_in, q_in, front_answer}
 use Rattle.reading.proofs.ReadLaws.{front_few}
 use Rattle.weighted_file.specs.declared.Weighted.{Weighted}
@@ -41,20 +41,20 @@ weighted_taken s count w c d e f tasks weights = λ i.
     }
 
 -- a reply is known by its answer and its weighted table
-reply_is : (r : WeightedReading) (s : List ℕ) → r.answer ≡ weighted_answer s → r.weighted ≡ pick (isAccepted (weighted_answer s)) (weighted_in s) no_weighted
+reply_is : (r : WeightedReading) (s : List ℕ) → r.answer ≡ weighted_answer s → r.weighted ≡ pick (is_accepted (weighted_answer s)) (weighted_in s) no_weighted
     → r ≡ weighted_read_reply s
 unfolding weighted_read_reply
 reply_is r s a t = λ i. record { answer = a i; weighted = t i }
 
 -- something is refused that needs no row
-pub front_refused : (r : WeightedReading) (s : List ℕ) → isAccepted (front_answer weighted_width s) ≡ false → r.answer ≡ front_answer weighted_width s
+pub front_refused : (r : WeightedReading) (s : List ℕ) → is_accepted (front_answer weighted_width s) ≡ false → r.answer ≡ front_answer weighted_width s
     → r.weighted ≡ no_weighted → r ≡ weighted_read_reply s
 unfolding weighted_answer
 front_refused r s e a t = reply_is r s (rw e a) (rw (e, e) t)
 
 module _ (r : WeightedReading) (s : List ℕ) (front : front_answer weighted_width s ≡ Accepted) (answer : r.answer ≡ weighted_rules (weighted_in s)) where
   -- the rules refuse
-  pub rules_refused : isAccepted (weighted_rules (weighted_in s)) ≡ false → r.weighted ≡ no_weighted → r ≡ weighted_read_reply s
+  pub rules_refused : is_accepted (weighted_rules (weighted_in s)) ≡ false → r.weighted ≡ no_weighted → r ≡ weighted_read_reply s
   unfolding weighted_answer
   rules_refused e t = reply_is r s (rw front answer) (rw (front, e) t)
 

@@ -5,7 +5,7 @@ use mathlib.Core.List.{List}
 use borrow.Author.Rules.{rules}
 use Rattle.table.specs.declared.Answer.{Answer}
 use Rattle.table.specs.declared.Answer.TheVariants.{Accepted}
-use Rattle.table.specs.Answers.{number_of, place_of, isAccepted}
+use Rattle.table.specs.Answers.{number_of, place_of, is_accepted}
 use Rattle.table.specs.Reading.{read_answer, read_reply}
 use Rattle.table.proofs.AnswerLaws.{told_refused}
 use Rattle.reading.proofs.ReadLaws.{head_bits_lem, read_head, table_refused, table_accepted}
@@ -38,7 +38,7 @@ reply_is file r answer a n p t = λ i. record { number = (n ∙ ap number_of a) 
 returns : tie.Need-returns
 returns c =
     let read = c.before.before.before.before.answer in
-    let refused = ap isAccepted (sym read.ensures) ∙ told_refused read.result c.before.match.keys2 in
+    let refused = ap is_accepted (sym read.ensures) ∙ told_refused read.result c.before.match.keys2 in
     reply_is _ _ read.result read.ensures c.before.before.before.number.ensures c.before.before.place.ensures (c.none.ensures ∙ table_refused _ refused)
 
 -- past the `let .. else` the file is accepted

@@ -9,7 +9,7 @@ use Rattle.base.specs.Limits.{max_tasks}
 use Rattle.table.specs.declared.Table.{Table}
 use Rattle.table.specs.declared.Answer.TheVariants.{Accepted}
 use Rattle.table.specs.Layout.{file_length}
-use Rattle.table.specs.Answers.{number_of, place_of, isAccepted, declined, wrote}
+use Rattle.table.specs.Answers.{number_of, place_of, is_accepted, declined, wrote}
 use Rattle.table.specs.Reading.{table_in, read_answer}
 use Rattle.table.specs.Moving.{first_outside, moved_table}
 use Rattle.table.proofs.AnswerLaws.{told_refused, refused_number}
@@ -62,7 +62,7 @@ returns : tie.Need-returns
 returns c =
     let s = c.before.before.before.before.before.before.before.args.file.now in
     let answer = read_answer_lem s _ c.before.before.before.before.read.ensures in
-    let bad = ap isAccepted (sym answer) ∙ told_refused c.before.before.before.before.read.result.answer c.before.before.before.match.keys2 in
+    let bad = ap is_accepted (sym answer) ∙ told_refused c.before.before.before.before.read.result.answer c.before.before.before.match.keys2 in
     let e = read_refused s c.before.before.before.before.before.before.before.args.frames _ bad in (
       c.declined.ensures ∙ (ap₂ declined (c.before.before.number.ensures ∙ ap number_of answer) (c.before.place.ensures ∙ ap place_of answer) ∙ e),
       refused_keeps s _ _ _ e (refused_number (read_answer s) bad),

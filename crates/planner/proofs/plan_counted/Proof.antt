@@ -12,7 +12,7 @@ use Rattle.table.specs.declared.Table.{Table}
 use Rattle.table.specs.declared.Answer.{Answer}
 use Rattle.table.specs.declared.Answer.TheVariants.{Accepted}
 use Rattle.table.specs.Tables.{no_table}
-use Rattle.table.specs.Answers.{number_of, place_of, isAccepted}
+use Rattle.table.specs.Answers.{number_of, place_of, is_accepted}
 use Rattle.table.specs.Kinds.{is_nested, is_similar, table_windows_answer}
 use Rattle.table.specs.Reading.{one_each, plain_read, table_in, read_answer, read_reply}
 use Rattle.table.specs.Writing.{Legal}
@@ -61,7 +61,7 @@ abbrev lent : (c : tie.Start) → LentLists
 lent c = record { marks = c.args.marks.now; starts = c.args.starts.now; ends = c.args.ends.now; tasks = c.args.tasks.now }
 
 -- what a refusal of reading gives
-refusal : (launch : ℕ) (file : List ℕ) (lists : LentLists) (answer : Answer) (r : Counted) → answer ≡ read_answer file → isAccepted (read_answer file) ≡ false
+refusal : (launch : ℕ) (file : List ℕ) (lists : LentLists) (answer : Answer) (r : Counted) → answer ≡ read_answer file → is_accepted (read_answer file) ≡ false
     → (r.count ≡ 0) × (r.reply ≡ plan_declined (number_of answer) (place_of answer))
     → (r.count ≡ (read_reply file).table.count)
     × ((r.reply ≡ plan_reply launch (plain_read file) lists) × (lists ≡ lists_left launch (plain_read file) r.reply lists))
@@ -91,8 +91,8 @@ returns c =
     let answer = read.read-any-kind.result.answer in
     let is = any_kind_answer_lem _ _ read.read-any-kind.ensures in
     let bad = told_refused answer c.before.match.keys2 in
-    let same = is ∙ any_kind_refused start.args.file.now (ap isAccepted (sym is) ∙ bad) in
-    refusal start.args.launch start.args.file.now (lent start) answer c.refused.result same (ap isAccepted (sym same) ∙ bad) c.refused.ensures
+    let same = is ∙ any_kind_refused start.args.file.now (ap is_accepted (sym is) ∙ bad) in
+    refusal start.args.launch start.args.file.now (lent start) answer c.refused.result same (ap is_accepted (sym same) ∙ bad) c.refused.ensures
 
 keys-of-kind-requires : tie.Need-keys-of-kind-requires
 keys-of-kind-requires c κs = has-keys c

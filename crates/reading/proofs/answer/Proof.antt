@@ -2,7 +2,7 @@
 use mathlib.Core.Path.{◌≡◌, ◌∙◌, sym, ap}
 use borrow.Author.Rules.{rules}
 use Rattle.table.specs.declared.Answer.TheVariants.{Accepted}
-use Rattle.table.specs.Answers.{isAccepted}
+use Rattle.table.specs.Answers.{is_accepted}
 use Rattle.table.specs.Reading.{head_answer}
 use Rattle.table.proofs.AnswerLaws.{told_refused}
 use Rattle.reading.proofs.ReadLaws.{head_refused, head_accepted, head_few, head_bits_lem}
@@ -18,7 +18,7 @@ enum_told c = search rules
 returns : tie.Need-returns
 returns c =
     let head = c.before.head-answer.ensures in
-    head ∙ head_refused _ (ap isAccepted (sym head) ∙ told_refused c.before.head-answer.result c.match.keys2)
+    head ∙ head_refused _ (ap is_accepted (sym head) ∙ told_refused c.before.head-answer.result c.match.keys2)
 
 -- past the `let .. else` the header is accepted
 accepted : (c : tie.After-enum-told) → head_answer c.before.before.before.before.args.file.now ≡ Accepted

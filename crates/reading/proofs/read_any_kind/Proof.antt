@@ -4,7 +4,7 @@ use borrow.Author.Rules.{rules}
 use Rattle.table.specs.declared.Table.{Table}
 use Rattle.table.specs.declared.Answer.TheVariants.{Accepted}
 use Rattle.table.specs.Tables.{task_at, table_of}
-use Rattle.table.specs.Answers.{isAccepted}
+use Rattle.table.specs.Answers.{is_accepted}
 use Rattle.table.specs.Kinds.{bad_window_answer}
 use Rattle.table.specs.Reading.{table_in, head_answer}
 use Rattle.table.proofs.AnswerLaws.{told_refused}
@@ -25,7 +25,7 @@ none-requires c κs = search rules
 returns : tie.Need-returns
 returns c =
     let head = c.before.before.head-answer in
-    let refused = ap isAccepted (sym head.ensures) ∙ told_refused head.result c.before.match.keys2 in
+    let refused = ap is_accepted (sym head.ensures) ∙ told_refused head.result c.before.match.keys2 in
     reply_head _ _ refused head.ensures c.none.ensures
 
 -- past the `let .. else` the header is accepted

@@ -58,7 +58,7 @@ use Rattle.schedule.proofs.Busy.TheLaws as mBusy'
 use Rattle.records.specs.declared.RunColumns.{RunColumns}
 use Rattle.records.specs.contracts.RunColumns as mRunColumns
 use Rattle.records.proofs.RunColumns.TheLaws as mRunColumns'
-use Rattle.record_calls.specs.Answers.{gatheredOf, answersOf}
+use Rattle.record_calls.specs.Answers.{gathered_of, answers_of}
 use Rattle.record_calls.specs.declared.Answers.{Answers}
 use Rattle.record_calls.specs.contracts.Answers as mAnswers
 use Rattle.record_calls.proofs.Answers.TheLaws as mAnswers'
@@ -107,7 +107,7 @@ stayed =
 -- what was answered is what the contract says
 are-answers : (runs run-list stretch : List Run) (tick a b : ℕ) (y₁ : RunsAnswer) (y₂ y₃ : Found) (y₄ : Busy) (y₅ : RunColumns) (y : Answers)
     → runs ≡ run-list → y₁ ≡ check_answer runs → y₂ ≡ run_at_tick runs tick → y₃ ≡ run_from_tick runs tick → y₄ ≡ busy_reply runs a b
-    → stretch ≡ touchingRuns runs a b → y₅ ≡ columns_of stretch → y ≡ gatheredOf y₁ y₂ y₃ y₄ y₅ → y ≡ answersOf run-list tick a b
+    → stretch ≡ touchingRuns runs a b → y₅ ≡ columns_of stretch → y ≡ gathered_of y₁ y₂ y₃ y₄ y₅ → y ≡ answers_of run-list tick a b
 are-answers runs run-list stretch tick a b y₁ y₂ y₃ y₄ y₅ y e e₁ e₂ e₃ e₄ e-stretch e₅ e-all = rw (e-all, e₁, e₂, e₃, e₄, e₅, e-stretch, e)
 
 -- that the functions called meet their contracts
@@ -235,7 +235,7 @@ module _ {M : Type 1} {𝓤 : Ura M} (𝓛 : Logic 𝓤) (at_mem : Memory → SP
         use0 𝓛 (raw ((By 𝓛 gathered.ended (gathered.clauses 𝓛 at_mem run)).pre (to-all y₁ y₂ y₃ y₄ y₅ w₁ w₂ w₃ w₄ w₅)))
         (all-answers y₁ y₂ y₃ y₄ y₅ w₁ w₂ w₃ w₄ w₅ is₁ is₂ is₃ is₄ is₅) $
         asks ! framed gathered.ended (gathered.clauses 𝓛 at_mem run) known.gathers (to-all y₁ y₂ y₃ y₄ y₅ w₁ w₂ w₃ w₄ w₅)
-        (‵ ftrue) (id⊢ 𝓤 _) (λ y. y ≡ gatheredOf y₁ y₂ y₃ y₄ y₅) (λ y e. id⊢ 𝓤 _) (and_then ! (value ! 17 refl) (and_then ! (value ! 15 refl)
+        (‵ ftrue) (id⊢ 𝓤 _) (λ y. y ≡ gathered_of y₁ y₂ y₃ y₄ y₅) (λ y e. id⊢ 𝓤 _) (and_then ! (value ! 17 refl) (and_then ! (value ! 15 refl)
         (and_then ! (value ! 13 refl) (and_then ! (value ! 11 refl) (and_then ! (value ! 9 refl) (no_more !)))))) (λ w y e-all is_all.
         land ! (spot !) (init ! 33 refl ((LL.lawful mAnswers.the_type mAnswers'.the_laws 𝓛).typed y _ is_all).0) $
         move ! (2 ∷ 3 ∷ []) $ comes_back ! tt rows long $

@@ -6,7 +6,7 @@ use borrow.Author.Rules.{rules}
 use lib.Dec.{eqb}
 use Rattle.base.specs.Limits.{max_tasks, max_weight}
 use Rattle.table.specs.declared.Answer.TheVariants.{Accepted}
-use Rattle.table.specs.Answers.{number_of, place_of, isAccepted}
+use Rattle.table.specs.Answers.{number_of, place_of, is_accepted}
 use Rattle.table.specs.Kinds.{is_nested}
 use Rattle.table.specs.Writing.{Legal}
 use Rattle.table.proofs.AnswerLaws.{told_refused, refused_number}
@@ -52,7 +52,7 @@ returns c =
     let start = read.before.before.before.before.before.before in
     let file = start.args.file.now in
     let answer = read_answer_lem file _ read.read.ensures in
-    let bad = ap isAccepted (sym answer) ∙ told_refused read.read.result.answer c.before.before.before.match.keys2 in
+    let bad = ap is_accepted (sym answer) ∙ told_refused read.read.result.answer c.before.before.before.match.keys2 in
     let says =
     c.declined.ensures ∙ ap₂ plan_declined (c.before.before.number.ensures ∙ ap number_of answer) (c.before.place.ensures ∙ ap place_of answer) in
     weighted_clauses start.args.launch file c.declined.result (lent start) (lent start)

@@ -3,7 +3,7 @@ use mathlib.Core.Path.{◌≡◌, ◌∙◌, sym, ap}
 use borrow.Author.Rules.{rules}
 use Rattle.table.specs.declared.Answer.TheVariants.{Accepted}
 use Rattle.table.specs.Tables.{table_of}
-use Rattle.table.specs.Answers.{isAccepted}
+use Rattle.table.specs.Answers.{is_accepted}
 use Rattle.table.specs.Reading.{front_answer}
 use Rattle.table.proofs.AnswerLaws.{told_refused}
 use Rattle.reading.proofs.ReadLaws.{front_few, front_bits}
@@ -24,7 +24,7 @@ refused-requires c κs = search rules
 returns : tie.Need-returns
 returns c =
     let front = c.before.before.front-answer in
-    let bad = ap isAccepted (sym front.ensures) ∙ told_refused front.result c.before.match.keys2 in
+    let bad = ap is_accepted (sym front.ensures) ∙ told_refused front.result c.before.match.keys2 in
     front_refused _ _ bad (c.refused.ensures.0 ∙ front.ensures) c.refused.ensures.1
 
 -- past the first `let .. else` nothing is refused that needs no row
@@ -56,7 +56,7 @@ rules c = c.rules-answer.ensures ∙ ap weighted_rules c.before.weighted-in.ensu
 returns-2 : tie.Need-returns-2
 returns-2 c =
     let answer = rules c.before.before in
-    let bad = ap isAccepted (sym answer) ∙ told_refused c.before.before.rules-answer.result c.before.match2.keys2 in
+    let bad = ap is_accepted (sym answer) ∙ told_refused c.before.before.rules-answer.result c.before.match2.keys2 in
     rules_refused _ _ (accepted c.before.before.before.before.before) (c.refused2.ensures.0 ∙ answer) bad c.refused2.ensures.1
 
 returns-3 : tie.Need-returns-3
