@@ -92,6 +92,7 @@ at_member (other ∷ runs) zero run l e = inl e
 at_member (other ∷ runs) (suc k) run l e = inr (at_member runs k run (omega arith) e)
 
 member_at : (runs : List Run) (run : Run) → Any (λ other. other ≡ run) runs → (k : ℕ) × (k < length runs) × (get_or runs k no_run ≡ run)
+member_at [] run x' = absurd x'
 member_at (other ∷ runs) run (inl e) = (0, omega arith, e)
 member_at (other ∷ runs) run (inr m) = let r = member_at runs run m in let l = r.1 in (suc r.0, omega arith, r.2)
 

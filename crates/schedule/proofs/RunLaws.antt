@@ -109,6 +109,7 @@ free_before from runs ne fo tick l =
 pub owner_is_run : (from : ℕ) (runs : List Run) → none_empty runs ≡ true → follow_from from runs ≡ true
     → (tick i : ℕ) → Any (λ run. (run_holds run tick ≡ true) × (run.task ≡ i)) runs → owner_of runs tick ≡ some i
 unfolding owner_of
+owner_is_run from [] ne fo tick i x3 = absurd x3
 owner_is_run from (run ∷ runs) ne fo tick i (inl h) = rw (h.0, h.1)
 owner_is_run from (run ∷ runs) ne fo tick i (inr h) =
     let fo₂ = rest_follow from run runs fo in
@@ -135,6 +136,7 @@ owned_exactly runs tick = (owned-held runs, held-owned runs)
     owned-held (run ∷ runs) e = cases (run_holds run tick) (λ h. inl h) (λ h. inr (owned-held runs (rw h at e)))
 
     held-owned : (runs : List Run) → Any (λ run. run_holds run tick ≡ true) runs → is_owned (owner_of runs tick) ≡ true
+    held-owned [] x' = absurd x'
     held-owned (run ∷ runs) (inl h) = rw h
     held-owned (run ∷ runs) (inr m) = cases (run_holds run tick) (λ h. rw h) (λ h. rw h (held-owned runs m))
 

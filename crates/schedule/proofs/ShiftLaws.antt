@@ -91,11 +91,13 @@ module _ (c : ℕ) where
 
     -- a window of the later jobs holds the tick c ticks after one that a window of the jobs holds
     holds_later : (tick i : ℕ) (jobs : List Job) → Any (WindowHolds tick i) jobs → Any (WindowHolds (tick + c) i) (later_jobs c jobs)
+    holds_later tick i [] x' = absurd x'
     holds_later tick i (job ∷ jobs) (inl h) = inl (h.0, omega arith, omega arith)
     holds_later tick i (job ∷ jobs) (inr h) = inr (holds_later tick i jobs h)
 
     -- and the other way
     holds-back : (tick i : ℕ) (jobs : List Job) → Any (WindowHolds (tick + c) i) (later_jobs c jobs) → Any (WindowHolds tick i) jobs
+    holds-back tick i [] x' = absurd x'
     holds-back tick i (job ∷ jobs) (inl h) = inl (h.0, omega arith, omega arith)
     holds-back tick i (job ∷ jobs) (inr h) = inr (holds-back tick i jobs h)
 
@@ -124,6 +126,7 @@ module _ (c : ℕ) where
 
   -- no window of the later jobs holds a tick below c
   none-holds : (jobs : List Job) (tick i : ℕ) → tick < c → Any (WindowHolds tick i) (later_jobs c jobs) → ⊥
+  none-holds [] tick i h x'' = absurd x''
   none-holds (job ∷ jobs) tick i h (inl m) = omega arith
   none-holds (job ∷ jobs) tick i h (inr m) = none-holds jobs tick i h m
 
