@@ -20,7 +20,7 @@ take_header-header-requires c =
 pub windows_in-requires : goal.windows_in-requires
 windows_in-requires c =
     let accepted : head_answer c.args.file.now ≡ Accepted = sym c.head_answer-head.ensures ∙ c.in-Accepted.is in
-    (c.take_header-header.ensures, head_few _ (accepted))
+    record { header_of = c.take_header-header.ensures; file_bound = (head_few _ (accepted)).0; file_bound_2 = (head_few _ (accepted)).1 }
 
 pub returns : goal.returns
 returns c =

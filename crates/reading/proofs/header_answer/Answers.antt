@@ -1,7 +1,8 @@
 -- `reading::header_answer` meets its contract: each return knows the tests that led there, in their order.
-use Prim.Native.Nat.{◌≤◌}
+use Prim.Native.Nat.{ℕ, ◌≤◌}
 use mathlib.Core.Path.{◌≡◌, ◌∙◌, sym, ap, ap₂}
 use mathlib.Core.Bool.{false}
+use mathlib.Core.List.{List}
 use native.Mathlib.Omega.{arith}
 use lib.ListN.{length}
 use Rattle.base.specs.Limits.{max_tasks, bad_period}
@@ -13,16 +14,16 @@ use Rattle.reading.proofs.FrontLaws.{count-bad, too_short, too_long, padding-bad
 use Rattle.reading.proofs.header_answer.Goals as goal
 
 -- what is known once the count was looked at: it is that of the file, and good
-record Counted (c : tie.Else1) : Type 0 where
-  four : 4 ≤ length c.before.before.before.args.file.now
-  is : c.before.before.before.args.header.count ≡ count_in c.before.before.before.args.file.now
-  good : bad_count (count_in c.before.before.before.args.file.now) ≡ false
-  few : c.before.before.before.args.header.count ≤ max_tasks
+record Counted (file : List ℕ) (count : ℕ) : Type 0 where
+  four : 4 ≤ length file
+  is : count ≡ count_in file
+  good : bad_count (count_in file) ≡ false
+  few : count ≤ max_tasks
 
 -- what is known once the length was looked at: it is the one that the count needs
-record Measured (c : tie.Else3) : Type 0 where
-  needed : c.before.before.rows-length.result ≡ rows_length c.before.before.before.before.before.before.args.width (count_in c.before.before.before.before.before.before.args.file.now)
-  exact : length c.before.before.before.before.before.before.args.file.now ≡ c.before.before.rows-length.result
+record Measured (file : List ℕ) (width bytes : ℕ) : Type 0 where
+  needed : bytes ≡ rows_length width (count_in file)
+  exact : length file ≡ bytes
 
 pub returns-then-bad_count : goal.returns-then-bad_count
 returns-then-bad_count c =
@@ -31,7 +32,7 @@ returns-then-bad_count c =
 
 pub rows_length-needed-requires : goal.rows_length-needed-requires
 rows_length-needed-requires c =
-    let counted : Counted c = let good = sym c.bad_count.ensures ∙ c.if-bad_count.false in
+    let counted : Counted c.args.file.now c.args.header.count = let good = sym c.bad_count.ensures ∙ c.if-bad_count.false in
     let is = c.requires.header_of.0 in
     record {
       four = c.requires.in_bounds;
@@ -43,7 +44,7 @@ rows_length-needed-requires c =
 
 pub returns-then-length-needed : goal.returns-then-length-needed
 returns-then-length-needed c =
-    let counted : Counted c = let good = sym c.bad_count.ensures ∙ c.if-bad_count.false in
+    let counted : Counted c.args.file.now c.args.header.count = let good = sym c.bad_count.ensures ∙ c.if-bad_count.false in
     let is = c.requires.header_of.0 in
     record {
       four = c.requires.in_bounds;
@@ -57,7 +58,7 @@ returns-then-length-needed c =
 
 pub returns-then-needed-length : goal.returns-then-needed-length
 returns-then-needed-length c =
-    let counted : Counted c = let good = sym c.bad_count.ensures ∙ c.if-bad_count.false in
+    let counted : Counted c.args.file.now c.args.header.count = let good = sym c.bad_count.ensures ∙ c.if-bad_count.false in
     let is = c.requires.header_of.0 in
     record {
       four = c.requires.in_bounds;
@@ -71,7 +72,7 @@ returns-then-needed-length c =
 
 pub padding_set-requires : goal.padding_set-requires
 padding_set-requires c =
-    let counted : Counted c = let good = sym c.bad_count.ensures ∙ c.if-bad_count.false in
+    let counted : Counted c.args.file.now c.args.header.count = let good = sym c.bad_count.ensures ∙ c.if-bad_count.false in
     let is = c.requires.header_of.0 in
     record {
       four = c.requires.in_bounds;
@@ -79,7 +80,7 @@ padding_set-requires c =
       good = ap bad_count (sym is) ∙ good;
       few = (count_known c.args.header.count good).1;
     } in
-    let measured : Measured c = record {
+    let measured : Measured c.args.file.now c.args.width c.rows_length-needed.result = record {
       needed = c.rows_length-needed.ensures ∙ ap (rows_length _) (counted).is;
       exact = omega arith;
     } in
@@ -87,7 +88,7 @@ padding_set-requires c =
 
 pub returns-then-padding_set : goal.returns-then-padding_set
 returns-then-padding_set c =
-    let counted : Counted c = let good = sym c.bad_count.ensures ∙ c.if-bad_count.false in
+    let counted : Counted c.args.file.now c.args.header.count = let good = sym c.bad_count.ensures ∙ c.if-bad_count.false in
     let is = c.requires.header_of.0 in
     record {
       four = c.requires.in_bounds;
@@ -95,7 +96,7 @@ returns-then-padding_set c =
       good = ap bad_count (sym is) ∙ good;
       few = (count_known c.args.header.count good).1;
     } in
-    let measured : Measured c = record {
+    let measured : Measured c.args.file.now c.args.width c.rows_length-needed.result = record {
       needed = c.rows_length-needed.ensures ∙ ap (rows_length _) (counted).is;
       exact = omega arith;
     } in
@@ -106,7 +107,7 @@ returns-then-padding_set c =
 
 pub returns-then-bad_period : goal.returns-then-bad_period
 returns-then-bad_period c =
-    let counted : Counted c = let good = sym c.bad_count.ensures ∙ c.if-bad_count.false in
+    let counted : Counted c.args.file.now c.args.header.count = let good = sym c.bad_count.ensures ∙ c.if-bad_count.false in
     let is = c.requires.header_of.0 in
     record {
       four = c.requires.in_bounds;
@@ -114,7 +115,7 @@ returns-then-bad_period c =
       good = ap bad_count (sym is) ∙ good;
       few = (count_known c.args.header.count good).1;
     } in
-    let measured : Measured c = record {
+    let measured : Measured c.args.file.now c.args.width c.rows_length-needed.result = record {
       needed = c.rows_length-needed.ensures ∙ ap (rows_length _) (counted).is;
       exact = omega arith;
     } in
@@ -127,7 +128,7 @@ returns-then-bad_period c =
 
 pub returns : goal.returns
 returns c =
-    let counted : Counted c = let good = sym c.bad_count.ensures ∙ c.if-bad_count.false in
+    let counted : Counted c.args.file.now c.args.header.count = let good = sym c.bad_count.ensures ∙ c.if-bad_count.false in
     let is = c.requires.header_of.0 in
     record {
       four = c.requires.in_bounds;
@@ -135,7 +136,7 @@ returns c =
       good = ap bad_count (sym is) ∙ good;
       few = (count_known c.args.header.count good).1;
     } in
-    let measured : Measured c = record {
+    let measured : Measured c.args.file.now c.args.width c.rows_length-needed.result = record {
       needed = c.rows_length-needed.ensures ∙ ap (rows_length _) (counted).is;
       exact = omega arith;
     } in

@@ -41,7 +41,7 @@ overflow_cast-rest c =
 pub piece-requires : goal.piece-requires
 unfolding bytes_for
 piece-requires c =
-    omega arith
+    record { at_bound = omega arith; le_width = omega arith }
 
 pub returns : goal.returns
 unfolding padding_set

@@ -11,7 +11,7 @@ pub returns-in_default : goal.returns-in_default
 returns-in_default c =
     let answer = c.answer-answer.ensures in
     let refused = ap is_accepted (sym answer) ∙ told_refused c.answer-answer.result c.in_default.not-Accepted in
-    reply_is _ _ answer (c.none-table.ensures ∙ table_refused _ refused)
+    record { reply = reply_is _ _ answer (c.none-table.ensures ∙ table_refused _ refused) }
 
 pub take_header-header-requires : goal.take_header-header-requires
 take_header-header-requires c =
@@ -26,4 +26,4 @@ table_in-table-requires c =
 pub returns : goal.returns
 returns c =
     let accepted : read_answer c.args.file.now ≡ Accepted = sym c.answer-answer.ensures ∙ c.in-Accepted.is in
-    reply_is _ _ c.answer-answer.ensures (c.table_in-table.ensures ∙ table_accepted _ (accepted))
+    record { reply = reply_is _ _ c.answer-answer.ensures (c.table_in-table.ensures ∙ table_accepted _ (accepted)) }

@@ -16,7 +16,7 @@ loop-i-init c =
 pub take_window-window-requires : goal.take_window-window-requires
 unfolding task_start
 take_window-window-requires c =
-    omega arith
+    record { task_width_bound = omega arith; task_width_bound_2 = omega arith }
 
 pub bounds-frames-i-in-loop-i : goal.bounds-frames-i-in-loop-i
 bounds-frames-i-in-loop-i c =

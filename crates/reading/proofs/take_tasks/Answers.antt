@@ -14,7 +14,7 @@ loop-i-init c =
 pub take_task-taken-requires : goal.take_task-taken-requires
 unfolding task_start
 take_task-taken-requires c =
-    omega arith
+    record { task_width_bound = omega arith; task_width_bound_2 = omega arith }
 
 pub loop-i-preserved : goal.loop-i-preserved
 unfolding task_start task_in

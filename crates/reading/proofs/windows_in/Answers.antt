@@ -17,7 +17,6 @@ frames_answer-requires c =
 
 pub returns : goal.returns
 returns c =
-    let taken = c.take_frames in
     let count_is = c.requires.header_of.0 in
-    let held : FramesIn (task_in c.args.file.now) (count_in c.args.file.now) taken.new.1.1.0 = λ k l. taken.ensures k (omega (arith, count_is)) in
-    c.frames_answer.ensures ∙ windows_taken c.args.file.now c.args.header.count taken.new.1.1.0 c.requires.file_bound count_is held
+    let held : FramesIn (task_in c.args.file.now) (count_in c.args.file.now) c.take_frames.new.frames = λ k l. c.take_frames.ensures k (omega (arith, count_is)) in
+    c.frames_answer.ensures ∙ windows_taken c.args.file.now c.args.header.count c.take_frames.new.frames c.requires.file_bound count_is held
