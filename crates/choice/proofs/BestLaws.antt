@@ -54,11 +54,11 @@ module _ {A : Type 0} (fit : A → Bool) (key : A → List ℕ) where
   best-first a (b ∷ bs) = at_most-trans _ _ _ (best-first (better fit key a b) bs) (better-first a b)
 
   -- and at most that of every other that fits
-  pub best_others : (a : A) (bs : List A) (b : A) → Memᴰ b bs → fit b ≡ true → LexAtMost (key (best fit key a bs)) (key b)
+  pub best_others : (b : A) (bs : List A) (a : A) → Memᴰ b bs → fit b ≡ true → LexAtMost (key (best fit key a bs)) (key b)
   unfolding best
-  best_others a bs b (Memᴰ.head {xs = xs} q) e =
+  best_others b bs a (Memᴰ.head {xs = xs} q) e =
       rw (← q) (at_most-trans _ _ _ (best-first (better fit key a b) xs) (better-second a b e))
-  best_others a bs b (Memᴰ.tail {x = x} {xs = xs} m) e = best_others (better fit key a x) xs b m e
+  best_others b bs a (Memᴰ.tail {x = x} {xs = xs} m) e = best_others b xs (better fit key a x) m e
 
 -- every list of one mark a job is among the keep lists
 pub length_among : (jobs : List Job) (keeps : List Bool) → length keeps ≡ length jobs → Memᴰ keeps (keep_lists jobs)
@@ -77,7 +77,7 @@ unfolding best_list
 best_of_all fit key jobs none marks =
     record {
       fit = best_fits fit key _ (keep_lists jobs) none;
-      least = λ other e. best_others fit key _ (keep_lists jobs) other (length_among jobs other (marks other e)) e;
+      least = λ other e. best_others fit key other (keep_lists jobs) _ (length_among jobs other (marks other e)) e;
     }
 
 -- There is one best at most, where different candidates have different keys.

@@ -22,7 +22,7 @@ as_passed f = to_z-of_z f
 
 -- a signed number of 32 bits, widened to 64, is the same number
 pub widened : (z : ℤ) → SFits w32 z → to_z w64 (of_z w64 (to_z w32 (of_z w32 z))) ≡ z
-widened z f = ap (λ (y : ℤ). to_z w64 (of_z w64 y)) (to_z-of_z f) ∙ to_z-of_z (sfits_widen tt f)
+widened z f = ap (λ (y : ℤ). to_z w64 (of_z w64 y)) (to_z-of_z f) ∙ to_z-of_z {w = w64} (sfits_widen {w = w32} {w' = w64} tt f)
 
 -- the size of a sum is at most the sum of the sizes
 mag_sum : (f : ℕ) (z : ℤ) → mag (pos f +ℤ z) ≤ f + mag z

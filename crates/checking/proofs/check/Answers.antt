@@ -3,7 +3,6 @@ use Prim.Native.Nat.{ℕ}
 use mathlib.Core.Path.{◌≡◌, sym, ap, ◌∙◌}
 use mathlib.Core.Bool.{Bool, true, false}
 use mathlib.Core.List.{List}
-use borrow.Author.Rules.{rules}
 use borrow.Author.Tests.{ltb-true, ltb-false}
 use lib.Dec.{ltb}
 use lib.ListN.{length}
@@ -15,8 +14,7 @@ use Rattle.base.specs.Lowest.{some_below}
 use Rattle.checking.specs.SomeOutOfOrder.{some_out_of_order}
 use Rattle.schedule.proofs.ColumnLaws.{columns_many}
 use Rattle.schedule.proofs.CheckLaws.{many_refused, order_refused, accepts}
-use Rattle.checking.proofs.check.Statement.{statement}
-use Rattle.checking.proofs.check.Tie as tie
+use Rattle.checking.proofs.check.Goals as goal
 
 -- the three answers, by the columns
 module _ (starts ends tasks : List ℕ) (many : Bool) (m : many ≡ ltb max_runs (length starts)) where
@@ -40,30 +38,15 @@ module _ (starts ends tasks : List ℕ) (many : Bool) (m : many ≡ ltb max_runs
         let runs = runs_of starts ends tasks in
         sym (accepts runs (many_is ∙ few) (ltb-false (first_out_of_order runs) (length runs) (sym b ∙ e)))
 
-too-many-requires : tie.Need-too-many-requires
-too-many-requires c κs = search rules
+pub returns-then-too_many : goal.returns-then-too_many
+returns-then-too_many c tasks =
+    says-many _ _ tasks _ c.too_many.ensures c.if-too_many.true
 
-returns : tie.Need-returns
-returns c tasks = says-many _ _ tasks _ c.before.too_many.ensures c.if1.true
+pub returns-then-some_out_of_order : goal.returns-then-some_out_of_order
+returns-then-some_out_of_order c tasks =
+    says-order _ _ tasks _ c.too_many.ensures c.if-too_many.false _ (c.some_out_of_order.ensures tasks) _ (c.first_out_of_order.ensures tasks)
+    c.if-some_out_of_order.true
 
-some-out-of-order-requires : tie.Need-some-out-of-order-requires
-some-out-of-order-requires c κs = search rules
-
-first-out-of-order-requires : tie.Need-first-out-of-order-requires
-first-out-of-order-requires c κs = search rules
-
-returns-2 : tie.Need-returns-2
-returns-2 c tasks =
-    let some = c.before.before.some-out-of-order in
-    let after = c.before.before.before in
-    says-order _ _ tasks _ after.before.too_many.ensures after.if1.false _ (some.ensures tasks) _ (c.first-out-of-order.ensures tasks)
-    c.before.if2.true
-
-returns-3 : tie.Need-returns-3
-returns-3 c tasks =
-    let after = c.before.before in
-    says-accepted _ _ tasks _ after.before.too_many.ensures after.if1.false _ (c.before.some-out-of-order.ensures tasks) c.if2.false
-
-pub check-spec : {M : Type 1} → statement M
-check-spec =
-    tie.close (tie.spec too-many-requires returns some-out-of-order-requires first-out-of-order-requires returns-2 returns-3)
+pub returns : goal.returns
+returns c tasks =
+    says-accepted _ _ tasks _ c.too_many.ensures c.if-too_many.false _ (c.some_out_of_order.ensures tasks) c.if-some_out_of_order.false

@@ -7,8 +7,7 @@ use native.Mathlib.Decide.{dec_lt}
 use lib.Dec.{leb, ltb}
 use borrow.Author.Tests.{lt-ltb, le-ltb, le-leb, lt-leb}
 use Rattle.base.specs.Tests.{or}
-use Rattle.checking.proofs.is_out_of_order.Statement.{statement}
-use Rattle.checking.proofs.is_out_of_order.Tie as tie
+use Rattle.checking.proofs.is_out_of_order.Goals as goal
 
 -- an end that is at most the start is a start that is not below the end
 at_most : (start end : ℕ) → leb end start ≡ not (ltb start end)
@@ -18,12 +17,9 @@ at_most start end =
       | no l ↦ rw (le-ltb start end (omega arith), le-leb end start (omega arith))
     ]
 
-returns : tie.Need-returns
+pub returns : goal.returns
 returns c =
     let start = c.args.start in
     let end = c.args.end in
     let early = ltb start c.args.previous in
     ap (λ (empty : Bool). or empty early) (at_most start end)
-
-pub is-out-of-order-spec : {M : Type 1} → statement M
-is-out-of-order-spec = tie.close (tie.spec returns)
