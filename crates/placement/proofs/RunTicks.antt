@@ -215,6 +215,7 @@ pub free_beyond : (owner : Owner) (jobs : List Job) (b tick : ℕ) → Inside jo
 free_beyond owner jobs b tick h a l = owner_cases (owner tick) (λ e. e) (λ k e. absurd (out jobs k (h tick k e) a))
   where
     out : (jobs : List Job) (k : ℕ) → Any (WindowHolds tick k) jobs → All (λ job. job.deadline ≤ b) jobs → ⊥
+    out [] k x'' a = absurd x''
     out (job ∷ jobs) k (inl q) a = let z = a.0 in omega arith
     out (job ∷ jobs) k (inr q) a = out jobs k q a.1
 
@@ -241,6 +242,7 @@ placed_inner owner job jobs c h tick k e = go jobs c.nested.0 c.distinct.0 (h ti
   where
     go : (jobs : List Job) → All (Between job.release job.deadline) jobs → All (λ n. job.position ≢ n) (positions jobs) → Any (WindowHolds tick k) jobs
         → (job.release ≤ tick) × (job.position ≢ k)
+    go [] n d x3 = absurd x3
     go (other ∷ jobs) n d (inl q) = let x = n.0 in let y = d.0 in omega arith
     go (other ∷ jobs) n d (inr q) = go jobs n.1 d.1 q
 

@@ -115,6 +115,7 @@ gains owner job w (suc n) = omega (arith, gains owner job w n, give_sum job.posi
 
 -- where only jobs of a list have ticks, a job of no position in it has none
 pub stranger : (i k : ℕ) (jobs : List Job) (tick : ℕ) → All (λ n. i ≢ n) (positions jobs) → Any (WindowHolds tick k) jobs → k ≢ i
+stranger i k [] tick d x'' = absurd x''
 stranger i k (job ∷ jobs) tick d (inl h) = let n = d.0 in omega arith
 stranger i k (job ∷ jobs) tick d (inr h) = stranger i k jobs tick d.1 h
 

@@ -59,6 +59,7 @@ module _ (launch : ℕ) (t : Table) (work : ℕ → ℕ) where
 
   -- the work of each ends by then
   ends_by : (js : List ℕ) → Sorted (kind_before t) js → (k : ℕ) → Among k js → 0 < work k → start_at js k + work k ≤ finish_at js
+  ends_by [] s k x3 w = absurd x3
   ends_by (j ∷ js) s k (inl e) w = rw (← e) (omega (arith, finish-here j js (rw (← e) at w)))
   ends_by (j ∷ js) s k (inr m) w =
       rw (start-there j k js (sorted_other t j k js s m)) (omega (arith, ends_by js s.1 k m w, finish-there j js))
@@ -89,12 +90,14 @@ module _ (launch : ℕ) (t : Table) (work : ℕ → ℕ) where
 
   -- no task starts before its release,
   starts-released : (js : List ℕ) → Sorted (kind_before t) js → (k : ℕ) → Among k js → (job_at launch t k).release ≤ start_at js k
+  starts-released [] s k x'' = absurd x''
   starts-released (j ∷ js) s k (inl e) = rw (← e) (rw (start-here j js) (omega arith))
   starts-released (j ∷ js) s k (inr m) = rw (start-there j k js (sorted_other t j k js s m)) (starts-released js s.1 k m)
 
   -- nor before the work of one before it ends,
   starts-after : (js : List ℕ) → Sorted (kind_before t) js → (j k : ℕ) → Among j js → Among k js → 0 < work j → kind_before t j k ≡ true
       → start_at js j + work j ≤ start_at js k
+  starts-after [] s j k x5 _ w b = absurd x5
   starts-after (i ∷ js) s j k (inl e) (inl f) w b =
       let q : kind_before t k k ≡ true = rw (sym e ∙ f) at b in both_absurd (kind_before t k k) q (kind_once t k k q)
   starts-after (i ∷ js) s j k (inl e) (inr n) w b =
@@ -109,6 +112,7 @@ module _ (launch : ℕ) (t : Table) (work : ℕ → ℕ) where
   -- and each at one of these ticks
   starts-early : (js : List ℕ) → Sorted (kind_before t) js → (k : ℕ) → Among k js
       → (start_at js k ≡ (job_at launch t k).release) ⊎ ((j : ℕ) × Among j js × (0 < work j) × (kind_before t j k ≡ true) × (start_at js k ≡ start_at js j + work j))
+  starts-early [] s k x'' = absurd x''
   starts-early (i ∷ js) s k (inl f) =
       rw (← f)
       (elim (dec_le (finish_at js) (job_at launch t i).release) [
@@ -185,6 +189,7 @@ module _ (launch : ℕ) (t : Table) (work : ℕ → ℕ) where
 
   -- each task that has work starts where it starts when all run in order
   starts-only : (js : List ℕ) (start : ℕ → ℕ) → Sorted (kind_before t) js → EarlyIn js start → (k : ℕ) → Among k js → 0 < work k → start k ≡ start_at js k
+  starts-only [] start s e k x4 w = absurd x4
   starts-only (i ∷ js) start s e k (inr m) w =
       starts-only js start s.1 (early-tail i js start s e) k m w ∙ sym (start-there i k js (sorted_other t i k js s m))
   starts-only (i ∷ js) start s e k (inl f) w =
@@ -202,6 +207,7 @@ module _ (launch : ℕ) (t : Table) (work : ℕ → ℕ) where
 
     fits-ends : (js : List ℕ) → Sorted (kind_before t) js → fits_in_order (map (job_at launch t) js) (map keep js) ≡ true
         → (k : ℕ) → Among k js → 0 < work k → start_at js k + work k ≤ (job_at launch t k).deadline
+    fits-ends [] s e k x4 w = absurd x4
     fits-ends (i ∷ js) s e k (inl f) w =
         let v : 0 < work i = rw (← f) at w in
         let head = rw (← works i, finish-is js) at (order_head (job_at launch t i) (map (job_at launch t) js) (keep i) (map keep js) e) in

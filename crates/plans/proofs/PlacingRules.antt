@@ -50,6 +50,7 @@ latest_at : (launch : ℕ) (t : Table) (owner : Owner) (i : ℕ) (js : List ℕ)
     → Latest (map (job_at launch t) js) owner
     → (u v : ℕ) → (job_at launch t i).release ≤ u → u < (job_at launch t i).deadline → owner u ≢ some i
     → ((j : ℕ) → owner u ≡ some j → kind_before t i j ≡ true) → owner v ≡ some i → u < v
+latest_at launch t owner i [] s x3 h = absurd x3
 latest_at launch t owner i (k ∷ js) s (inr m) h = latest_at launch t owner i js s.1 m h.1
 latest_at launch t owner i (k ∷ js) s (inl e) h =
     rw (← e)

@@ -59,6 +59,7 @@ module _ (t : Table) (f g : ℕ → Bool) where
 
   -- equal lists differ nowhere
   equal-there : (js : List ℕ) → map g js ≡ map f js → KeepsThere js
+  equal-there [] e k x4 d a = absurd x4
   equal-there (j ∷ js) e k (inl q) d a = let agree : f j ≡ g j = cc in absurd (d (rw q at agree))
   equal-there (j ∷ js) e k (inr m) d a = equal-there js (cc) k m d a.1
 

@@ -132,6 +132,7 @@ module _ (launch : ℕ) (t : Table) where
   members-on : (js : List ℕ) → Sorted (kind_before t) js → (k j : ℕ) → Any (λ i. i ≡ k) js → Any (λ i. i ≡ j) js → up_to t j k ≡ true
       → Any (λ i. i ≡ j) (from_on js k)
   unfolding up_to
+  members-on [] s k j x4 m u = absurd x4
   members-on (i ∷ js) s k j (inl e) m u = rw (← e) (rw (on_here i js) m)
   members-on (i ∷ js) s k j (inr n) (inr m) u = rw (on_there i k js (sorted_other t i k js s n)) (members-on js s.1 k j n m u)
   members-on (i ∷ js) s k j (inr n) (inl e) u =
@@ -144,10 +145,12 @@ module _ (launch : ℕ) (t : Table) where
 
   -- the jobs of positions, and those of the positions below n that pass a test
   jobs-of : (P : Job → Type 0) (js : List ℕ) (k : ℕ) → Any (λ i. i ≡ k) js → P (job_at launch t k) → Any P (map (job_at launch t) js)
+  jobs-of P [] k x'' p = absurd x''
   jobs-of P (i ∷ js) k (inl e) p = inl (rw e p)
   jobs-of P (i ∷ js) k (inr m) p = inr (jobs-of P js k m p)
 
   of-jobs : (P : Job → Type 0) (js : List ℕ) → Any P (map (job_at launch t) js) → (k : ℕ) × Any (λ i. i ≡ k) js × P (job_at launch t k)
+  of-jobs P [] x' = absurd x'
   of-jobs P (i ∷ js) (inl p) = (i, inl refl, p)
   of-jobs P (i ∷ js) (inr m) = let r = of-jobs P js m in (r.0, inr r.1, r.2)
 
@@ -194,6 +197,7 @@ module _ (launch : ℕ) (t : Table) where
     -- what fits, fits from each position on
     fit_on : (js : List ℕ) → fit nested (map (job_at launch t) js) ≡ true → (k : ℕ) → Any (λ i. i ≡ k) js → fit nested (map (job_at launch t) (from_on js k)) ≡ true
     unfolding from_on
+    fit_on [] e k m = absurd m
     fit_on (i ∷ js) e k m =
         elim (ℕ_discrete i k) [
           | yes q ↦ rw (eq-eqb i k q) e
@@ -263,6 +267,7 @@ module _ (launch : ℕ) (t : Table) where
     -- from each position on they are of the kind
     kind-on : (js : List ℕ) → JobsOfKind nested (map (job_at launch t) js) → (k : ℕ) → Any (λ i. i ≡ k) js → JobsOfKind nested (map (job_at launch t) (from_on js k))
     unfolding from_on
+    kind-on [] c k m = absurd m
     kind-on (i ∷ js) c k m =
         elim (ℕ_discrete i k) [
           | yes q ↦ rw (eq-eqb i k q) c

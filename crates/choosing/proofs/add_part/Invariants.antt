@@ -1,0 +1,12 @@
+-- `choosing::add_part` meets its contract. The loop's invariant: the part is put in above place v, and up to it the row is as it was.
+use Prim.Native.Nat.{◌-◌}
+use Rattle.choice.specs.Decisions.{PutAbove}
+use Rattle.choosing.proofs.add_part.Given as goal
+
+abbrev pub invariant-loop-v : goal.invariant-loop-v
+invariant-loop-v l =
+    PutAbove l.optional l.top l.v l.initial.row l.row
+
+abbrev pub decreases-loop-v : goal.decreases-loop-v
+decreases-loop-v l =
+    l.v
