@@ -1,2 +1,1 @@
 pub mod ReadingLaws
-pub mod JudgeCalls

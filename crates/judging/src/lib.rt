@@ -30,7 +30,7 @@ struct Pass {
 }
 
 // The reply of a refusal.
-fn declined(number: u32, place: usize) -> Judged
+pub fn declined(number: u32, place: usize) -> Judged
     ensures { result ≡ judge_declined number place }
 {
     Judged {
@@ -198,7 +198,7 @@ fn verdict_of(
 }
 
 // Judging on the table of an accepted file, of whatever form: 14, then 11, the length first, then 13, then the verdict.
-fn judge_table(
+pub fn judge_table(
     table: Table,
     launch: u32,
     marks: &[u8],
@@ -269,9 +269,10 @@ pub fn judge_columns(
     judge_reading(reading::read(file), launch, marks, starts, ends, tasks)
 }
 
-// Judging on what was read of a file, by runs that were copied into columns.
-fn judge_copied(read: Reading, launch: u32, marks: &[u8], columns: RunColumns) -> Judged
-    requires { LegalRead (taken_from read) × LegalColumns columns }
+// Judging on what was read of a file of whatever form, by runs that were copied into columns.
+pub fn judge_read_copied(read: Reading, launch: u32, marks: &[u8], columns: RunColumns) -> Judged
+    requires legal_read { LegalRead (taken_from read) }
+    requires legal_columns { LegalColumns columns }
     ensures { result ≡ judge_reply launch (taken_from read) marks.now (copied_runs columns) }
 {
     let n = columns.count;
@@ -281,13 +282,21 @@ fn judge_copied(read: Reading, launch: u32, marks: &[u8], columns: RunColumns) -
     judge_reading(read, launch, marks, &starts[..n], &ends[..n], &tasks[..n])
 }
 
+// Judging a file by runs that were copied into columns.
+pub fn judge_copied(file: &[u8], launch: u32, marks: &[u8], columns: RunColumns) -> Judged
+    requires { LegalColumns columns }
+    ensures { result ≡ judge_reply launch (plain_read file.now) marks.now (copied_runs columns) }
+{
+    judge_read_copied(reading::read(file), launch, marks, columns)
+}
+
 // Judging on what was read of a file of whatever form, by run records. All judges call it, so that the columns are made beside the one pass over them: lent
 // to a function that several call, they would be copied once more.
 pub fn judge_records(read: Reading, launch: u32, marks: &[u8], runs: &[Run]) -> Judged
     requires { LegalRead (taken_from read) }
     ensures { result ≡ judge_reply launch (taken_from read) marks.now runs.now }
 {
-    judge_copied(read, launch, marks, records::columns_of(runs))
+    judge_read_copied(read, launch, marks, records::columns_of(runs))
 }
 
 // Judging: any bytes, launch tick, marks and run list get the reply of documents 01 and 02.

@@ -1,9 +1,9 @@
 -- For the proofs of placing's, sequencing's and planner's code alone: the runs found so far, as placing's code holds them while jobs are filled in, by
 -- start, in columns, at the places from a first to an end; and the lent columns that runs are put into.
-use Rattle.std.specs.Borrow.{Bor}
+use Rattle.std.specs.Borrow.{MutBor}
 use Rattle.std.specs.Prelude.{ℕ, zero, suc, ◌+◌, ◌-◌, ◌≤◌, ◌<◌, ◌≡◌, List, [], ◌∷◌, ◌++◌, length}
 use Rattle.base.specs.Limits.{max_tasks, most_runs, max_plan_runs}
-use Rattle.base.specs.Lent.{ListParameter, written_front}
+use Rattle.base.specs.Lent.{WrittenParameter, written_front}
 use Rattle.schedule.specs.declared.Job.{Job}
 use Rattle.schedule.specs.declared.Run.{Run}
 use Rattle.schedule.specs.Runs.{run_at_index, starts_of, ends_of, tasks_of}
@@ -68,7 +68,7 @@ FrontsWritten runs starts ends tasks newStarts newEnds newTasks =
     × (newTasks ≡ written_front (tasks_of runs) tasks)
 
 -- the same of columns that were lent to a call
-abbrev pub RunsPut : List Run → ListParameter → ListParameter → ListParameter → Type 0
+abbrev pub RunsPut : List Run → WrittenParameter → WrittenParameter → WrittenParameter → Type 0
 RunsPut runs starts ends tasks =
     FrontsWritten runs starts.entry.now ends.entry.now tasks.entry.now starts.exit.now ends.exit.now tasks.exit.now
 
@@ -77,11 +77,11 @@ abbrev pub RunsRoom : ℕ → List ℕ → List ℕ → List ℕ → Type 0
 RunsRoom n starts ends tasks = (most_runs n ≤ length starts) × (most_runs n ≤ length ends) × (most_runs n ≤ length tasks)
 
 -- what the places of three lent columns hold: for a `requires`, and in an `ensures` as the call begins and as it returns
-abbrev pub places_now : Bor (List ℕ) → Bor (List ℕ) → Bor (List ℕ) → ℕ → Run
+abbrev pub places_now : MutBor (List ℕ) → MutBor (List ℕ) → MutBor (List ℕ) → ℕ → Run
 places_now starts ends tasks = run_at_index starts.now ends.now tasks.now
 
-abbrev pub places_before : ListParameter → ListParameter → ListParameter → ℕ → Run
+abbrev pub places_before : WrittenParameter → WrittenParameter → WrittenParameter → ℕ → Run
 places_before starts ends tasks = places_now starts.entry ends.entry tasks.entry
 
-abbrev pub places_after : ListParameter → ListParameter → ListParameter → ℕ → Run
+abbrev pub places_after : WrittenParameter → WrittenParameter → WrittenParameter → ℕ → Run
 places_after starts ends tasks = places_now starts.exit ends.exit tasks.exit

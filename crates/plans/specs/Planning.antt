@@ -3,7 +3,7 @@ use Rattle.std.specs.Prelude.{ℕ, ◌+◌, List, [], ◌∷◌, map, reverse, B
 use Rattle.base.specs.Tests.{pick, or}
 use Rattle.base.specs.Limits.{most_runs}
 use Rattle.base.specs.Places.{places}
-use Rattle.base.specs.Lent.{ListParameter, written_front}
+use Rattle.base.specs.Lent.{WrittenParameter, written_front}
 use Rattle.clock.specs.Clock.{bad_launch}
 use Rattle.table.specs.declared.Table.{Table}
 use Rattle.table.specs.Kinds.{is_nested}
@@ -81,10 +81,10 @@ abbrev pub lent : List ℕ → List ℕ → List ℕ → List ℕ → LentLists
 lent marks starts ends tasks = record { marks = marks; starts = starts; ends = ends; tasks = tasks }
 
 -- the lists that are lent to a call, as it begins and as it returns: for contracts
-abbrev pub lent_before : ListParameter → ListParameter → ListParameter → ListParameter → LentLists
+abbrev pub lent_before : WrittenParameter → WrittenParameter → WrittenParameter → WrittenParameter → LentLists
 lent_before marks starts ends tasks = lent marks.entry.now starts.entry.now ends.entry.now tasks.entry.now
 
-abbrev pub lent_after : ListParameter → ListParameter → ListParameter → ListParameter → LentLists
+abbrev pub lent_after : WrittenParameter → WrittenParameter → WrittenParameter → WrittenParameter → LentLists
 lent_after marks starts ends tasks = lent marks.exit.now starts.exit.now ends.exit.now tasks.exit.now
 
 -- lists that are just long enough for n tasks

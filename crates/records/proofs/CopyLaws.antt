@@ -40,3 +40,11 @@ pub copied_reply : {A : Type 0} (reply : List Run → A) → OneForMany reply �
 copied_reply reply one runs =
     ap reply (copied_runs_lem runs)
     ∙ cases (too_many runs) (λ e. one (take max_copied runs) runs (copied_many runs ∙ e) e) (λ e. ap reply (copied_all runs e))
+
+-- The same of columns that are those of a list: what a call knows of them.
+pub legal_where : (columns : RunColumns) (runs : List Run) → columns ≡ columns_of runs → LegalColumns columns
+legal_where columns runs e = rw e (columns_legal runs)
+
+pub reply_where : {A : Type 0} (reply : List Run → A) → OneForMany reply → (columns : RunColumns) (runs : List Run) → columns ≡ columns_of runs
+    → reply (copied_runs columns) ≡ reply runs
+reply_where reply one columns runs e = rw e (copied_reply reply one runs)

@@ -14,34 +14,27 @@ use Rattle.schedule.specs.RunCheck.{check_answer, runs_number, runs_place, runs_
 use Rattle.schedule.specs.BusyCount.{shared, busy_sum, busy_reply}
 use Rattle.schedule.proofs.BusyLaws.{sum_most}
 use Rattle.checking.proofs.OrderLaws.{told_refused, columns-few}
+use Rattle.busy.proofs.busy_columns.Invariants.{sum_from, Counted}
 use Rattle.busy.proofs.busy_columns.Goals as goal
 
 module _ (starts ends tasks : List ℕ) (a b : ℕ) where
-  -- the sum over the runs from index i on
-  unfoldable sumFrom : ℕ → ℕ
-  sumFrom i = busy_sum a b (places_from (run_at_index starts ends tasks) i (length starts - i))
-
-  -- `ticks` are the sum over the runs below index i
-  abbrev Counted : ℕ → ℕ → Type 0
-  Counted ticks i = ticks + sumFrom i ≡ busy_sum a b (runs_of starts ends tasks)
-
-  sum-start : Counted 0 0
-  unfolding sumFrom runs_of
+  sum-start : Counted starts ends tasks a b 0 0
+  unfolding sum_from runs_of
   sum-start = rw left_start (omega arith)
 
   sum_step :
       (ticks i r : ℕ) →
       i < length starts →
       r ≡ shared a b (record { start = get_or starts i 0; end = get_or ends i 0; task = 0 }) →
-      Counted ticks i →
-      Counted (ticks + r) (i + 1)
-  unfolding sumFrom run_at_index shared
+      Counted starts ends tasks a b ticks i →
+      Counted starts ends tasks a b (ticks + r) (i + 1)
+  unfolding sum_from run_at_index shared
   sum_step ticks i r l e h =
       let left = rw (left_step (run_at_index starts ends tasks) (length starts) i l) at h in
       omega arith
 
-  sum-end : (ticks i : ℕ) → length starts ≤ i → Counted ticks i → ticks ≡ busy_sum a b (runs_of starts ends tasks)
-  unfolding sumFrom
+  sum-end : (ticks i : ℕ) → length starts ≤ i → Counted starts ends tasks a b ticks i → ticks ≡ busy_sum a b (runs_of starts ends tasks)
+  unfolding sum_from
   sum-end ticks i l h =
       let none = rw (left_end (run_at_index starts ends tasks) (length starts) i l) at h in
       omega arith

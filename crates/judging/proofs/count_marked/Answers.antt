@@ -13,6 +13,7 @@ use Rattle.schedule.specs.Ticks.{sum_below}
 use Rattle.schedule.proofs.TickLaws.{count_passed, count_failed}
 use Rattle.judging.proofs.count_marked.Invariants.{isMarked}
 use Rattle.judging.proofs.count_marked.Goals as goal
+use Rattle.judging.proofs.count_marked.Goals.{then-job-gt0+then-marks-k, then-job-gt0+else-marks-k, else-job-gt0}
 
 not-counted : (jobs : List Job) (marks : List ℕ) (mark k : ℕ) → (get_or jobs k no_job).optional ≤ 0 → isMarked jobs marks mark k ≡ false
 not-counted jobs marks mark k l = rw (le-ltb 0 (get_or jobs k no_job).optional l)
@@ -26,24 +27,25 @@ pub loop-k-preserved : goal.loop-k-preserved
 loop-k-preserved c =
     let test = isMarked c.args.jobs c.args.marks.now c.args.mark in
     let k = c.loop-k.k in
-    ⊎_elim
-    (λ w. (
-      omega arith,
-      omega (arith, w.3),
-      w.3 ∙ (ap (λ (m : ℕ). m + 1) c.loop-k.invariant.2 ∙ sym (count_passed test k (ap₂ and (lt-ltb _ _ w.0.taken) (eq-eqb _ _ w.2.taken)))),
-    ))
-    (⊎_elim
-    (λ w. (
-      omega arith,
-      omega (arith, w.3),
-      w.3 ∙ (c.loop-k.invariant.2 ∙ sym (count_failed test k (ap₂ and (lt-ltb _ _ w.0.taken) (ne_eqb _ _ w.2.left)))),
-    ))
-    (λ w. (
-      omega arith,
-      omega (arith, w.1),
-      w.1 ∙ (c.loop-k.invariant.2 ∙ sym (count_failed test k (not-counted c.args.jobs c.args.marks.now c.args.mark k w.0.left))),
-    )))
-    c.if-job-gt0.branch
+    let before = c.loop-k.invariant in
+    elim c.if-job-gt0.branch [
+      | then-job-gt0+then-marks-k w ↦ (
+        omega arith,
+        omega (arith, w.marked-is),
+        w.marked-is
+            ∙ (ap (λ (m : ℕ). m + 1) before.2 ∙ sym (count_passed test k (ap₂ and (lt-ltb _ _ w.if-job-gt0.true) (eq-eqb _ _ w.if-marks-k.true)))),
+      )
+      | then-job-gt0+else-marks-k w ↦ (
+        omega arith,
+        omega (arith, w.marked-is),
+        w.marked-is ∙ (before.2 ∙ sym (count_failed test k (ap₂ and (lt-ltb _ _ w.if-job-gt0.true) (ne_eqb _ _ w.if-marks-k.false)))),
+      )
+      | else-job-gt0 w ↦ (
+        omega arith,
+        omega (arith, w.marked-is),
+        w.marked-is ∙ (before.2 ∙ sym (count_failed test k (not-counted c.args.jobs c.args.marks.now c.args.mark k w.if-job-gt0.false))),
+      )
+    ]
 
 pub returns : goal.returns
 returns c =

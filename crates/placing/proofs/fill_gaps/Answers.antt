@@ -63,10 +63,10 @@ bounds-starts-k c =
     let held = c.requires.held in
     let more : c.args.span.closed < c.loop-k.k = omega arith in
     elim c.if-n-gt0.branch [
-      | then-n-gt0 w ↦ let kept = w.4.kept in
-          rw (w.11, w.12, w.13, w.14)
-          ((omega arith, omega arith, omega arith), passed-some _ _ _ _ held _ _ _ _ _ _ more c.loop-k.invariant.1 (at_gap) _ w.if-n-gt0.true w.4.ensures)
-      | else-n-gt0 w ↦ rw (w.1, w.2, w.3, w.4) (c.loop-k.invariant.0, passed_none _ _ _ _ held _ _ _ _ _ _ more c.loop-k.invariant.1 (at_gap) w.if-n-gt0.false)
+      | then-n-gt0 w ↦ let kept = w.insert_run.auto in
+          rw (w.starts-is, w.ends-is, w.tasks-is, w.end-is)
+          ((omega arith, omega arith, omega arith), passed-some _ _ _ _ held _ _ _ _ _ _ more c.loop-k.invariant.1 (at_gap) _ w.if-n-gt0.true w.insert_run.ensures)
+      | else-n-gt0 w ↦ rw (w.starts-is, w.ends-is, w.tasks-is, w.end-is) (c.loop-k.invariant.0, passed_none _ _ _ _ held _ _ _ _ _ _ more c.loop-k.invariant.1 (at_gap) w.if-n-gt0.false)
     ] in
     omega (arith, span-within, (at-run).0)
 
@@ -78,10 +78,10 @@ loop-k-preserved c =
     let held = c.requires.held in
     let more : c.args.span.closed < c.loop-k.k = omega arith in
     elim c.if-n-gt0.branch [
-      | then-n-gt0 w ↦ let kept = w.4.kept in
-          rw (w.11, w.12, w.13, w.14)
-          ((omega arith, omega arith, omega arith), passed-some _ _ _ _ held _ _ _ _ _ _ more c.loop-k.invariant.1 (at_gap) _ w.if-n-gt0.true w.4.ensures)
-      | else-n-gt0 w ↦ rw (w.1, w.2, w.3, w.4) (c.loop-k.invariant.0, passed_none _ _ _ _ held _ _ _ _ _ _ more c.loop-k.invariant.1 (at_gap) w.if-n-gt0.false)
+      | then-n-gt0 w ↦ let kept = w.insert_run.auto in
+          rw (w.starts-is, w.ends-is, w.tasks-is, w.end-is)
+          ((omega arith, omega arith, omega arith), passed-some _ _ _ _ held _ _ _ _ _ _ more c.loop-k.invariant.1 (at_gap) _ w.if-n-gt0.true w.insert_run.ensures)
+      | else-n-gt0 w ↦ rw (w.starts-is, w.ends-is, w.tasks-is, w.end-is) (c.loop-k.invariant.0, passed_none _ _ _ _ held _ _ _ _ _ _ more c.loop-k.invariant.1 (at_gap) w.if-n-gt0.false)
     ] in
     at-run
 

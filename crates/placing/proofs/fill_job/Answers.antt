@@ -16,7 +16,7 @@ unfolding run_at_index bottom_of
 returns-then-n-eq0 c =
     let at_top : c.if-first-end.top ≡ bottom_of c.args.job.deadline (runs_down (run_at_index c.fill_gaps-filled.new.starts c.fill_gaps-filled.new.ends c.fill_gaps-filled.new.tasks) c.args.span.first c.fill_gaps-filled.result.end) =
     let at = run_at_index c.fill_gaps-filled.new.starts c.fill_gaps-filled.new.ends c.fill_gaps-filled.new.tasks in
-    elim c.if-first-end.branch [ then-first-end w ↦ w.2 ∙ sym (runs_bottom at c.args.span.first c.fill_gaps-filled.result.end c.args.job.deadline w.if-first-end.true) | else-first-end w ↦ rw (runs_none at c.args.span.first c.fill_gaps-filled.result.end w.if-first-end.false) w.1 ] in
+    elim c.if-first-end.branch [ then-first-end w ↦ w.top-is ∙ sym (runs_bottom at c.args.span.first c.fill_gaps-filled.result.end c.args.job.deadline w.if-first-end.true) | else-first-end w ↦ rw (runs_none at c.args.span.first c.fill_gaps-filled.result.end w.if-first-end.false) w.top-is ] in
     let none : c.gap_ticks-n.result ≡ 0 = omega arith in
     record { first_le_first = (omega arith, omega arith); held_2 = c.fill_gaps-filled.ensures.held; end_value = below_none _ _ _ _ _ _ _ _ _ c.fill_gaps-filled.ensures (at_top) c.gap_ticks-n.ensures none }
 
@@ -25,7 +25,7 @@ unfolding run_at_index bottom_of
 returns c =
     let at_top : c.if-first-end.top ≡ bottom_of c.args.job.deadline (runs_down (run_at_index c.fill_gaps-filled.new.starts c.fill_gaps-filled.new.ends c.fill_gaps-filled.new.tasks) c.args.span.first c.fill_gaps-filled.result.end) =
     let at = run_at_index c.fill_gaps-filled.new.starts c.fill_gaps-filled.new.ends c.fill_gaps-filled.new.tasks in
-    elim c.if-first-end.branch [ then-first-end w ↦ w.2 ∙ sym (runs_bottom at c.args.span.first c.fill_gaps-filled.result.end c.args.job.deadline w.if-first-end.true) | else-first-end w ↦ rw (runs_none at c.args.span.first c.fill_gaps-filled.result.end w.if-first-end.false) w.1 ] in
+    elim c.if-first-end.branch [ then-first-end w ↦ w.top-is ∙ sym (runs_bottom at c.args.span.first c.fill_gaps-filled.result.end c.args.job.deadline w.if-first-end.true) | else-first-end w ↦ rw (runs_none at c.args.span.first c.fill_gaps-filled.result.end w.if-first-end.false) w.top-is ] in
     let top = c.if-first-end.top in
     let n = c.gap_ticks-n.result in
     let front = c.args.span.first - 1 in

@@ -70,7 +70,7 @@ loop-left-preserved c =
     let column = c.args.column.now in
     let half = half_is c.loop-left.left in
     let last = c.loop-left.first + c.loop-left.left / 2 - 1 in
-    elim c.if-column-first.branch [ then-column-first w ↦ up column _ _ _ c.loop-left.invariant c.requires.by_index _ last _ (omega arith) (omega arith) w.1 w.if-column-first.true | else-column-first w ↦ down column _ _ _ c.loop-left.invariant _ last _ (omega arith) (omega arith) w.1 w.if-column-first.false ]
+    elim c.if-column-first.branch [ then-column-first w ↦ up column _ _ _ c.loop-left.invariant c.requires.by_index _ last _ (omega arith) (omega arith) w.first-is w.if-column-first.true | else-column-first w ↦ down column _ _ _ c.loop-left.invariant _ last _ (omega arith) (omega arith) w.first-is w.if-column-first.false ]
 
 pub overflow_cast-column-then-left-eq1 : goal.overflow_cast-column-then-left-eq1
 overflow_cast-column-then-left-eq1 c =

@@ -1,9 +1,0 @@
--- `queries::stretch_copied` meets its contract: what is promised for every list of tasks is so for the one that was copied.
-use borrow.Author.Rules.{rules}
-use Rattle.queries.proofs.stretch_copied.Statement.{statement}
-use Rattle.queries.proofs.stretch_copied.Tie as tie
-
-pub stretch-copied-spec : {M : Type 1} → statement M
-stretch-copied-spec =
-    tie.close
-    (tie.spec (λ c. search rules) (λ c. search rules) (λ c. search rules) (λ c. search rules) (λ c κs. search rules) (λ c. c.stretch.ensures _))
