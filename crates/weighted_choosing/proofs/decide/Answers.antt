@@ -14,25 +14,21 @@ loop-v-init c =
 
 pub at_most-keep-requires : goal.at_most-keep-requires
 at_most-keep-requires c =
-    let start_of : tie.Start invariant-loop decreases-loop = c in
-    (start_of).requires.1.1.0 c.loop-v.v (omega arith)
+    c.requires.sign_free c.loop-v.v (omega arith)
 
 pub overflow_add-decisions : goal.overflow_add-decisions
 overflow_add-decisions c =
-    let start_of : tie.Start invariant-loop decreases-loop = c in
-    let kept_here : Bool = kept_at (start_of).args.kept.now (start_of).args.from (start_of).args.row.now c.loop-v.v in
-    let put_is : c.bit_where.result ≡ bit_where (kept_here) (2 ^ (start_of).args.i) = rw (← bit_is (start_of).args.i (omega arith), ← c.at_most-keep.ensures) c.bit_where.ensures in
-    let start = start_of in
+    let kept_here : Bool = kept_at c.args.kept.now c.args.from c.args.row.now c.loop-v.v in
+    let put_is : c.bit_where.result ≡ bit_where (kept_here) (2 ^ c.args.i) = rw (← bit_is c.args.i (omega arith), ← c.at_most-keep.ensures) c.bit_where.ensures in
     let v = c.loop-v.v in
-    let unset : get_or c.loop-v.decisions v 0 % 2 ^ (start.args.i + 1) ≡ 0 = rw (c.loop-v.invariant.1.beyond v (omega arith)) (start.pre.1.1.1 v (omega arith)) in
-    let small = bit_fits (get_or c.loop-v.decisions v 0) start.args.i unset (omega arith) (omega (arith, c.slice_known-in-loop-v-1.given v)) (kept_here) in
+    let unset : get_or c.loop-v.decisions v 0 % 2 ^ (c.args.i + 1) ≡ 0 = rw (c.loop-v.invariant.1.beyond v (omega arith)) (c.requires.by_index v (omega arith)) in
+    let small = bit_fits (get_or c.loop-v.decisions v 0) c.args.i unset (omega arith) (omega (arith, c.slice_known-in-loop-v-1.given v)) (kept_here) in
     omega (arith, small, put_is)
 
 pub loop-v-preserved : goal.loop-v-preserved
 loop-v-preserved c =
-    let start_of : tie.Start invariant-loop decreases-loop = c in
-    let kept_here : Bool = kept_at (start_of).args.kept.now (start_of).args.from (start_of).args.row.now c.loop-v.v in
-    let put_is : c.bit_where.result ≡ bit_where (kept_here) (2 ^ (start_of).args.i) = rw (← bit_is (start_of).args.i (omega arith), ← c.at_most-keep.ensures) c.bit_where.ensures in
+    let kept_here : Bool = kept_at c.args.kept.now c.args.from c.args.row.now c.loop-v.v in
+    let put_is : c.bit_where.result ≡ bit_where (kept_here) (2 ^ c.args.i) = rw (← bit_is c.args.i (omega arith), ← c.at_most-keep.ensures) c.bit_where.ensures in
     (omega arith, written_next _ _ _ _ _ _ _ _ _ (omega arith) (omega arith) (omega (arith, c.loop-v.invariant.1.same_length)) (rw (c.loop-v.invariant.1.beyond c.loop-v.v (omega arith), put_is)) c.loop-v.invariant.1)
 
 pub shape_of-decisions : goal.shape_of-decisions

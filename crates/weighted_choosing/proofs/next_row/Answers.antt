@@ -4,21 +4,20 @@ use native.Mathlib.Omega.{arith}
 use Rattle.base.proofs.RewriteLaws.{rewritten_start, written_next}
 use Rattle.weighted_choosing.proofs.next_row.Goals as goal
 
+-- where the function was entered
 pub loop-v-init : goal.loop-v-init
 loop-v-init c =
     (omega arith, rewritten_start _ _ _ _ _)
 
 pub lesser-requires : goal.lesser-requires
 lesser-requires c =
-    let start_of : tie.Start invariant-loop decreases-loop = c in
-    let free = (start_of).requires.1.0 c.loop-v.v (omega arith) in
+    let free = c.requires.sign_free c.loop-v.v (omega arith) in
     (free.0, rw (c.loop-v.invariant.1.beyond c.loop-v.v (omega arith)) free.1)
 
 pub held_to-requires : goal.held_to-requires
 held_to-requires c =
-    let start_of : tie.Start invariant-loop decreases-loop = c in
-    let free = (start_of).requires.1.0 c.loop-v.v (omega arith) in
-    (omega (arith, c.lesser.ensures, free.0), (start_of).requires.1.1)
+    let free = c.requires.sign_free c.loop-v.v (omega arith) in
+    (omega (arith, c.lesser.ensures, free.0), c.requires.room_bound)
 
 pub loop-v-preserved : goal.loop-v-preserved
 loop-v-preserved c =

@@ -10,6 +10,8 @@ use Rattle.weighted_choosing.proofs.CountLaws.{counted_start, counted-kept, coun
 use Rattle.weighted_choosing.proofs.read_back.Goals.{else-keep, then-keep}
 use Rattle.weighted_choosing.proofs.read_back.Goals as goal
 
+-- where the function was entered
+-- the loop from which a bit is read
 pub loop-i-init : goal.loop-i-init
 loop-i-init c =
     (walked_start _ _ _ _ _ (omega (arith, c.requires.weights_decided.within)) c.requires.weights_decided.last.below, counted_start _ _ _)
@@ -20,62 +22,48 @@ offset_bounds-decisions-left c =
 
 pub bounds-decisions-left : goal.bounds-decisions-left
 bounds-decisions-left c =
-    let start_of : tie.Start invariant-loop decreases-loop = c in
-    omega (arith, c.loop-i.invariant.0.most, (start_of).requires.1.1.1.words)
+    omega (arith, c.loop-i.invariant.0.most, c.requires.weights_decided.words)
 
 pub bit_set-keep-requires : goal.bit_set-keep-requires
 bit_set-keep-requires c =
-    let start_of : tie.Start invariant-loop decreases-loop = c in
-    omega (arith, (start_of).pre.0)
+    omega (arith, c.requires.count_le_max_tasks)
 
 pub weight_of-weight-requires : goal.weight_of-weight-requires
 weight_of-weight-requires c =
-    let start_of : tie.Start invariant-loop decreases-loop = c in
-    omega (arith, (start_of).requires.1.0 c.loop-i.i (omega arith), (start_of).requires.1.1.0)
+    omega (arith, c.requires.by_index c.loop-i.i (omega arith), c.requires.weights_len)
 
 pub overflow_sub-left : goal.overflow_sub-left
 overflow_sub-left c =
-    let start_of : tie.Start invariant-loop decreases-loop = c in
-    let loop-of : tie.At-loop invariant-loop decreases-loop = c in
-    let a = loop-of in
-    let decision = c.bit_set-keep.ensures ∙ walked_decision _ _ _ _ _ _ _ _ _ a.loop.inv.0 (omega arith) (start_of a).pre.1.1.1.decided in
-    omega (arith, (walked_kept _ _ _ _ _ _ _ _ _ (start_of a).pre.0 a.loop.inv.0 (omega arith) decision c.if-keep.true).0, c.weight_of-weight.ensures)
+    let decision = c.bit_set-keep.ensures ∙ walked_decision _ _ _ _ _ _ _ _ _ c.loop-i.invariant.0 (omega arith) c.requires.weights_decided.decided in
+    omega (arith, (walked_kept _ _ _ _ _ _ _ _ _ c.requires.count_le_max_tasks c.loop-i.invariant.0 (omega arith) decision c.if-keep.true).0, c.weight_of-weight.ensures)
 
 pub overflow_add-kept : goal.overflow_add-kept
 overflow_add-kept c =
-    let start_of : tie.Start invariant-loop decreases-loop = c in
-    let loop-of : tie.At-loop invariant-loop decreases-loop = c in
-    let part-most : c.worth-part.result ≤ 1 = let a = loop-of in
-    omega (arith, c.worth-part.ensures, count_one-most (get_or (start_of a).args.t1 a.loop.i no_job)) in
-    omega (arith, (loop-of).loop.inv.1.few, part-most)
+    let part-most : c.worth-part.result ≤ 1 =
+    omega (arith, c.worth-part.ensures, count_one-most (get_or c.args.jobs c.loop-i.i no_job)) in
+    omega (arith, c.loop-i.invariant.1.few, part-most)
 
 pub overflow_add-discarded : goal.overflow_add-discarded
 overflow_add-discarded c =
-    let start_of : tie.Start invariant-loop decreases-loop = c in
-    let loop-of : tie.At-loop invariant-loop decreases-loop = c in
-    let part-most : c.worth-part.result ≤ 1 = let a = loop-of in
-    omega (arith, c.worth-part.ensures, count_one-most (get_or (start_of a).args.t1 a.loop.i no_job)) in
-    omega (arith, (loop-of).loop.inv.1.few, part-most)
+    let part-most : c.worth-part.result ≤ 1 =
+    omega (arith, c.worth-part.ensures, count_one-most (get_or c.args.jobs c.loop-i.i no_job)) in
+    omega (arith, c.loop-i.invariant.1.few, part-most)
 
 pub loop-i-preserved : goal.loop-i-preserved
 loop-i-preserved c =
-    let start_of : tie.Start invariant-loop decreases-loop = c in
-    let loop-of : tie.At-loop invariant-loop decreases-loop = c in
-    let a = loop-of in
-    let pre = (start_of a).pre in
-    let inside : a.loop.i < (start_of a).args.count = omega arith in
-    let walked = a.loop.inv.0 in
-    let decision = c.bit_set-keep.ensures ∙ walked_decision _ _ _ _ _ _ _ _ _ walked inside pre.1.1.1.decided in
-    let i = a.loop.i in
-    let keeps = a.loop.keeps in
+    let inside : c.loop-i.i < c.args.count = omega arith in
+    let walked = c.loop-i.invariant.0 in
+    let decision = c.bit_set-keep.ensures ∙ walked_decision _ _ _ _ _ _ _ _ _ walked inside c.requires.weights_decided.decided in
+    let i = c.loop-i.i in
+    let keeps = c.loop-i.keeps in
     let size = back_length _ _ _ _ ∙ places_length _ _ in
     elim c.if-keep.branch [
-      | then-keep w ↦ let next = (walked_kept _ _ _ _ _ _ _ _ _ pre.0 walked inside decision w.if-keep.true).1 in
-          let mark = walked_mark _ _ _ _ _ i _ keeps c.bit_set-keep.result pre.0 next inside ∙ w.if-keep.true in
-          rw (w.3, c.weight_of-weight.ensures, w.1, w.2) (next, counted-kept _ _ _ size _ _ _ _ inside c.worth-part.ensures a.loop.inv.1 mark)
-      | else-keep w ↦ let next = walked_discarded _ _ _ _ _ _ _ _ _ pre.0 walked inside decision w.if-keep.false in
-          let mark = walked_mark _ _ _ _ _ i _ keeps c.bit_set-keep.result pre.0 next inside ∙ w.if-keep.false in
-          rw (w.3, w.1, w.2) (next, counted-discarded _ _ _ size _ _ _ _ inside c.worth-part.ensures a.loop.inv.1 mark)
+      | then-keep w ↦ let next = (walked_kept _ _ _ _ _ _ _ _ _ c.requires.count_le_max_tasks walked inside decision w.if-keep.true).1 in
+          let mark = walked_mark _ _ _ _ _ i _ keeps c.bit_set-keep.result c.requires.count_le_max_tasks next inside ∙ w.if-keep.true in
+          rw (w.left-is, c.weight_of-weight.ensures, w.kept-is, w.discarded-is) (next, counted-kept _ _ _ size _ _ _ _ inside c.worth-part.ensures c.loop-i.invariant.1 mark)
+      | else-keep w ↦ let next = walked_discarded _ _ _ _ _ _ _ _ _ c.requires.count_le_max_tasks walked inside decision w.if-keep.false in
+          let mark = walked_mark _ _ _ _ _ i _ keeps c.bit_set-keep.result c.requires.count_le_max_tasks next inside ∙ w.if-keep.false in
+          rw (w.left-is, w.kept-is, w.discarded-is) (next, counted-discarded _ _ _ size _ _ _ _ inside c.worth-part.ensures c.loop-i.invariant.1 mark)
     ]
 
 pub overflow_cast-result : goal.overflow_cast-result
@@ -88,7 +76,5 @@ overflow_cast-result-2 c =
 
 pub returns : goal.returns
 returns c =
-    let start_of : tie.Start invariant-loop decreases-loop = c in
-    let pre = (start_of).pre in
     let counts = counted_end _ _ _ _ _ _ (omega arith) c.loop-i.invariant.1 in
-    (walked_end _ _ _ _ _ _ _ _ pre.0 c.loop-i.invariant.0 (omega arith), counts.0, counts.1)
+    (walked_end _ _ _ _ _ _ _ _ c.requires.count_le_max_tasks c.loop-i.invariant.0 (omega arith), counts.0, counts.1)

@@ -30,197 +30,153 @@ bounds-jobs-i c =
 
 pub overflow_add-mandatory : goal.overflow_add-mandatory
 overflow_add-mandatory c =
-    let start_of : tie.Start invariant-loop decreases-loop = c in
-    let job-at : Job = get_or (start_of).args.t1 (c.loop-i.i - 1) no_job in
-    let bounded : 0 < c.loop-i.i → Bounded (job-at) = λ l. (start_of).requires.1.0 (c.loop-i.i - 1) (omega (arith, c.loop-i.invariant.within_is)) in
+    let job-at : Job = get_or c.args.jobs (c.loop-i.i - 1) no_job in
+    let bounded : 0 < c.loop-i.i → Bounded (job-at) = λ l. c.requires.all_bounded (c.loop-i.i - 1) (omega (arith, c.loop-i.invariant.within_is)) in
     omega (arith, c.loop-i.invariant.mandatory_most, (bounded (omega arith)).mandatory)
 
 pub room_beside-room-requires : goal.room_beside-room-requires
 room_beside-room-requires c =
-    let start_of : tie.Start invariant-loop decreases-loop = c in
-    let weight-at : ℕ → ℕ = λ k. get_or (start_of).args.weights.now k 0 in
-    let inside : 0 < c.loop-i.i → Made (weighed (weight-at)) (λ k. get_or (start_of).args.t1 k no_job) (start_of).args.count (c.loop-i.i - 1 + 1) c.loop-i.row c.loop-i.auto c.loop-i.decisions c.loop-i.mandatory c.loop-i.top = λ l. let next : c.loop-i.i ≡ c.loop-i.i - 1 + 1 = omega arith in
+    let weight-at : ℕ → ℕ = λ k. get_or c.args.weights.now k 0 in
+    let inside : 0 < c.loop-i.i → Made (weighed (weight-at)) (λ k. get_or c.args.jobs k no_job) c.args.count (c.loop-i.i - 1 + 1) c.loop-i.row c.loop-i.kept c.loop-i.decisions c.loop-i.mandatory c.loop-i.top = λ l. let next : c.loop-i.i ≡ c.loop-i.i - 1 + 1 = omega arith in
     rw next at c.loop-i.invariant in
-    omega (arith, mandatory-room _ _ _ (start_of).requires.0 (start_of).requires.1.1.0 (c.loop-i.i - 1) _ _ _ _ _ (inside (omega arith)))
+    omega (arith, mandatory-room _ _ _ c.requires.count_le_max_tasks c.requires.count_value (c.loop-i.i - 1) _ _ _ _ _ (inside (omega arith)))
 
 pub weight_of-weight-requires : goal.weight_of-weight-requires
 weight_of-weight-requires c =
-    let start_of : tie.Start invariant-loop decreases-loop = c in
-    let pre = (start_of).requires.1.1.1 in
-    omega (arith, pre.0 (c.loop-i.i - 1) (omega (arith, c.loop-i.invariant.within_is)), pre.1.0.0)
+    omega (arith, c.requires.by_index (c.loop-i.i - 1) (omega (arith, c.loop-i.invariant.within_is)), c.requires.weights_len.0)
 
 pub overflow_sub-from : goal.overflow_sub-from
 overflow_sub-from c =
-    let start_of : tie.Start invariant-loop decreases-loop = c in
-    let weight-at : ℕ → ℕ = λ k. get_or (start_of).args.weights.now k 0 in
-    let job-at : Job = get_or (start_of).args.t1 (c.loop-i.i - 1) no_job in
+    let weight-at : ℕ → ℕ = λ k. get_or c.args.weights.now k 0 in
+    let job-at : Job = get_or c.args.jobs (c.loop-i.i - 1) no_job in
     let light : c.weight_of-weight.result ≤ max_weight =
-    let pre = (start_of).requires.1.1.1 in
-    let small = weighed_most (weight-at) (job-at) max_weight (pre.1.0.1 (job-at).position (pre.0 (c.loop-i.i - 1) (omega (arith, c.loop-i.invariant.within_is)))) in
+    let small = weighed_most (weight-at) (job-at) max_weight (c.requires.weights_len.1 (job-at).position (c.requires.by_index (c.loop-i.i - 1) (omega (arith, c.loop-i.invariant.within_is)))) in
     omega (arith, c.weight_of-weight.ensures, small) in
     light
 
 pub overflow_add-most : goal.overflow_add-most
 overflow_add-most c =
-    let start_of : tie.Start invariant-loop decreases-loop = c in
-    let weight-at : ℕ → ℕ = λ k. get_or (start_of).args.weights.now k 0 in
-    let job-at : Job = get_or (start_of).args.t1 (c.loop-i.i - 1) no_job in
-    let top-room : 0 < c.loop-i.i → c.loop-i.top + max_weight < weight_places = λ l. omega (arith, c.loop-i.invariant.top_most, c.loop-i.invariant.within_is, (start_of).requires.0) in
+    let weight-at : ℕ → ℕ = λ k. get_or c.args.weights.now k 0 in
+    let job-at : Job = get_or c.args.jobs (c.loop-i.i - 1) no_job in
+    let top-room : 0 < c.loop-i.i → c.loop-i.top + max_weight < weight_places = λ l. omega (arith, c.loop-i.invariant.top_most, c.loop-i.invariant.within_is, c.requires.count_le_max_tasks) in
     let light : c.weight_of-weight.result ≤ max_weight =
-    let pre = (start_of).requires.1.1.1 in
-    let small = weighed_most (weight-at) (job-at) max_weight (pre.1.0.1 (job-at).position (pre.0 (c.loop-i.i - 1) (omega (arith, c.loop-i.invariant.within_is)))) in
+    let small = weighed_most (weight-at) (job-at) max_weight (c.requires.weights_len.1 (job-at).position (c.requires.by_index (c.loop-i.i - 1) (omega (arith, c.loop-i.invariant.within_is)))) in
     omega (arith, c.weight_of-weight.ensures, small) in
     omega (arith, light, top-room (omega arith))
 
 pub overflow_add-top : goal.overflow_add-top
 overflow_add-top c =
-    let start_of : tie.Start invariant-loop decreases-loop = c in
-    let top-room : 0 < c.loop-i.i → c.loop-i.top + max_weight < weight_places = λ l. omega (arith, c.loop-i.invariant.top_most, c.loop-i.invariant.within_is, (start_of).requires.0) in
+    let top-room : 0 < c.loop-i.i → c.loop-i.top + max_weight < weight_places = λ l. omega (arith, c.loop-i.invariant.top_most, c.loop-i.invariant.within_is, c.requires.count_le_max_tasks) in
     omega (arith, top-room (omega arith))
 
 pub add_part-requires : goal.add_part-requires
 add_part-requires c =
-    let start_of : tie.Start invariant-loop decreases-loop = c in
-    let job-at : Job = get_or (start_of).args.t1 (c.loop-i.i - 1) no_job in
-    let bounded : 0 < c.loop-i.i → Bounded (job-at) = λ l. (start_of).requires.1.0 (c.loop-i.i - 1) (omega (arith, c.loop-i.invariant.within_is)) in
-    let top-room : 0 < c.loop-i.i → c.loop-i.top + max_weight < weight_places = λ l. omega (arith, c.loop-i.invariant.top_most, c.loop-i.invariant.within_is, (start_of).requires.0) in
+    let job-at : Job = get_or c.args.jobs (c.loop-i.i - 1) no_job in
+    let bounded : 0 < c.loop-i.i → Bounded (job-at) = λ l. c.requires.all_bounded (c.loop-i.i - 1) (omega (arith, c.loop-i.invariant.within_is)) in
+    let top-room : 0 < c.loop-i.i → c.loop-i.top + max_weight < weight_places = λ l. omega (arith, c.loop-i.invariant.top_most, c.loop-i.invariant.within_is, c.requires.count_le_max_tasks) in
     let made = c.loop-i.invariant in
     let room = top-room (omega arith) in
-    record { places_in_bounds = (omega (arith, c.loop-i.invariant.row_length), omega (arith, c.loop-i.invariant.kept_length)); optional_le_max_ticks = (bounded (omega arith)).optional; by_index = λ v l. made_most _ _ _ (start_of).requires.0 _ _ _ _ _ _ made v (omega arith) }
+    record { places_in_bounds = (omega (arith, c.loop-i.invariant.row_length), omega (arith, c.loop-i.invariant.kept_length)); optional_le_max_ticks = (bounded (omega arith)).optional; by_index = λ v l. made_most _ _ _ c.requires.count_le_max_tasks _ _ _ _ _ _ made v (omega arith) }
 
 pub overflow_add-most-in-loop-i : goal.overflow_add-most-in-loop-i
 overflow_add-most-in-loop-i c =
-    let start_of : tie.Start invariant-loop decreases-loop = c in
-    let loop-of : tie.At-loop invariant-loop decreases-loop = c in
-    let weight-at : ℕ → ℕ = λ k. get_or (start_of).args.weights.now k 0 in
-    let job-at : Job = get_or (start_of).args.t1 (c.loop-i.i - 1) no_job in
-    let top-room : 0 < c.loop-i.i → c.loop-i.top + max_weight < weight_places = λ l. omega (arith, c.loop-i.invariant.top_most, c.loop-i.invariant.within_is, (start_of).requires.0) in
+    let weight-at : ℕ → ℕ = λ k. get_or c.args.weights.now k 0 in
+    let job-at : Job = get_or c.args.jobs (c.loop-i.i - 1) no_job in
+    let top-room : 0 < c.loop-i.i → c.loop-i.top + max_weight < weight_places = λ l. omega (arith, c.loop-i.invariant.top_most, c.loop-i.invariant.within_is, c.requires.count_le_max_tasks) in
     let light : c.weight_of-weight.result ≤ max_weight =
-    let pre = (start_of).requires.1.1.1 in
-    let small = weighed_most (weight-at) (job-at) max_weight (pre.1.0.1 (job-at).position (pre.0 (c.loop-i.i - 1) (omega (arith, c.loop-i.invariant.within_is)))) in
+    let small = weighed_most (weight-at) (job-at) max_weight (c.requires.weights_len.1 (job-at).position (c.requires.by_index (c.loop-i.i - 1) (omega (arith, c.loop-i.invariant.within_is)))) in
     omega (arith, c.weight_of-weight.ensures, small) in
-    omega (arith, light, top-room (loop-of) (omega arith))
+    omega (arith, light, top-room (omega arith))
 
 pub decide-requires : goal.decide-requires
 decide-requires c =
-    let start_of : tie.Start invariant-loop decreases-loop = c in
-    let loop-of : tie.At-loop invariant-loop decreases-loop = c in
-    let weight-at : ℕ → ℕ = λ k. get_or (start_of).args.weights.now k 0 in
-    let job-at : Job = get_or (start_of).args.t1 (c.loop-i.i - 1) no_job in
-    let bounded : 0 < c.loop-i.i → Bounded (job-at) = λ l. (start_of).requires.1.0 (c.loop-i.i - 1) (omega (arith, c.loop-i.invariant.within_is)) in
-    let inside : 0 < c.loop-i.i → Made (weighed (weight-at)) (λ k. get_or (start_of).args.t1 k no_job) (start_of).args.count (c.loop-i.i - 1 + 1) c.loop-i.row c.loop-i.auto c.loop-i.decisions c.loop-i.mandatory c.loop-i.top = λ l. let next : c.loop-i.i ≡ c.loop-i.i - 1 + 1 = omega arith in
+    let weight-at : ℕ → ℕ = λ k. get_or c.args.weights.now k 0 in
+    let job-at : Job = get_or c.args.jobs (c.loop-i.i - 1) no_job in
+    let bounded : 0 < c.loop-i.i → Bounded (job-at) = λ l. c.requires.all_bounded (c.loop-i.i - 1) (omega (arith, c.loop-i.invariant.within_is)) in
+    let inside : 0 < c.loop-i.i → Made (weighed (weight-at)) (λ k. get_or c.args.jobs k no_job) c.args.count (c.loop-i.i - 1 + 1) c.loop-i.row c.loop-i.kept c.loop-i.decisions c.loop-i.mandatory c.loop-i.top = λ l. let next : c.loop-i.i ≡ c.loop-i.i - 1 + 1 = omega arith in
     rw next at c.loop-i.invariant in
-    let top-room : 0 < c.loop-i.i → c.loop-i.top + max_weight < weight_places = λ l. omega (arith, c.loop-i.invariant.top_most, c.loop-i.invariant.within_is, (start_of).requires.0) in
+    let top-room : 0 < c.loop-i.i → c.loop-i.top + max_weight < weight_places = λ l. omega (arith, c.loop-i.invariant.top_most, c.loop-i.invariant.within_is, c.requires.count_le_max_tasks) in
     let light : c.weight_of-weight.result ≤ max_weight =
-    let pre = (start_of).requires.1.1.1 in
-    let small = weighed_most (weight-at) (job-at) max_weight (pre.1.0.1 (job-at).position (pre.0 (c.loop-i.i - 1) (omega (arith, c.loop-i.invariant.within_is)))) in
+    let small = weighed_most (weight-at) (job-at) max_weight (c.requires.weights_len.1 (job-at).position (c.requires.by_index (c.loop-i.i - 1) (omega (arith, c.loop-i.invariant.within_is)))) in
     omega (arith, c.weight_of-weight.ensures, small) in
-    let free : SignFree c.add_part.new.kept (max_weight - c.weight_of-weight.result) (loop-of).loop.row ((loop-of).loop.top + c.weight_of-weight.result + 1) =
-    let a = loop-of in
-    let pre = (start_of a).pre in
-    sign-free _ _ _ pre.0 pre.1.1.0 (a.loop.i - 1) _ _ _ _ _ (inside a (omega arith)) (bounded a (omega arith)) _ _ c.weight_of-weight.ensures (light) c.add_part.ensures in
-    let a = loop-of in
-    let made = a.loop.inv in
-    let room = top-room a (omega arith) in
+    let free : SignFree c.add_part.new.kept (max_weight - c.weight_of-weight.result) c.loop-i.row (c.loop-i.top + c.weight_of-weight.result + 1) =
+    sign-free _ _ _ c.requires.count_le_max_tasks c.requires.count_value (c.loop-i.i - 1) _ _ _ _ _ (inside (omega arith)) (bounded (omega arith)) _ _ c.weight_of-weight.ensures (light) c.add_part.ensures in
+    let room = top-room (omega arith) in
     let small = light in
-    record { places_in_bounds = (omega (arith, made.kept_length, c.add_part.ensures.same_length), omega (arith, made.row_length), omega (arith, made.words)); i_bound = omega (arith, made.within_is, (start_of a).pre.0); sign_free = free; by_index = λ v l. (inside a (omega arith)).unset v (omega arith) }
+    record { places_in_bounds = (omega (arith, c.loop-i.invariant.kept_length, c.add_part.ensures.same_length), omega (arith, c.loop-i.invariant.row_length), omega (arith, c.loop-i.invariant.words)); i_bound = omega (arith, c.loop-i.invariant.within_is, c.requires.count_le_max_tasks); sign_free = free; by_index = λ v l. (inside (omega arith)).unset v (omega arith) }
 
 pub overflow_add-most-in-loop-i-2 : goal.overflow_add-most-in-loop-i-2
 overflow_add-most-in-loop-i-2 c =
-    let start_of : tie.Start invariant-loop decreases-loop = c in
-    let loop-of : tie.At-loop invariant-loop decreases-loop = c in
-    let weight-at : ℕ → ℕ = λ k. get_or (start_of).args.weights.now k 0 in
-    let job-at : Job = get_or (start_of).args.t1 (c.loop-i.i - 1) no_job in
-    let top-room : 0 < c.loop-i.i → c.loop-i.top + max_weight < weight_places = λ l. omega (arith, c.loop-i.invariant.top_most, c.loop-i.invariant.within_is, (start_of).requires.0) in
+    let weight-at : ℕ → ℕ = λ k. get_or c.args.weights.now k 0 in
+    let job-at : Job = get_or c.args.jobs (c.loop-i.i - 1) no_job in
+    let top-room : 0 < c.loop-i.i → c.loop-i.top + max_weight < weight_places = λ l. omega (arith, c.loop-i.invariant.top_most, c.loop-i.invariant.within_is, c.requires.count_le_max_tasks) in
     let light : c.weight_of-weight.result ≤ max_weight =
-    let pre = (start_of).requires.1.1.1 in
-    let small = weighed_most (weight-at) (job-at) max_weight (pre.1.0.1 (job-at).position (pre.0 (c.loop-i.i - 1) (omega (arith, c.loop-i.invariant.within_is)))) in
+    let small = weighed_most (weight-at) (job-at) max_weight (c.requires.weights_len.1 (job-at).position (c.requires.by_index (c.loop-i.i - 1) (omega (arith, c.loop-i.invariant.within_is)))) in
     omega (arith, c.weight_of-weight.ensures, small) in
-    omega (arith, light, top-room (loop-of) (omega arith))
+    omega (arith, light, top-room (omega arith))
 
 pub next_row-requires : goal.next_row-requires
 next_row-requires c =
-    let start_of : tie.Start invariant-loop decreases-loop = c in
-    let loop-of : tie.At-loop invariant-loop decreases-loop = c in
-    let weight-at : ℕ → ℕ = λ k. get_or (start_of).args.weights.now k 0 in
-    let job-at : Job = get_or (start_of).args.t1 (c.loop-i.i - 1) no_job in
-    let bounded : 0 < c.loop-i.i → Bounded (job-at) = λ l. (start_of).requires.1.0 (c.loop-i.i - 1) (omega (arith, c.loop-i.invariant.within_is)) in
-    let inside : 0 < c.loop-i.i → Made (weighed (weight-at)) (λ k. get_or (start_of).args.t1 k no_job) (start_of).args.count (c.loop-i.i - 1 + 1) c.loop-i.row c.loop-i.auto c.loop-i.decisions c.loop-i.mandatory c.loop-i.top = λ l. let next : c.loop-i.i ≡ c.loop-i.i - 1 + 1 = omega arith in
+    let weight-at : ℕ → ℕ = λ k. get_or c.args.weights.now k 0 in
+    let job-at : Job = get_or c.args.jobs (c.loop-i.i - 1) no_job in
+    let bounded : 0 < c.loop-i.i → Bounded (job-at) = λ l. c.requires.all_bounded (c.loop-i.i - 1) (omega (arith, c.loop-i.invariant.within_is)) in
+    let inside : 0 < c.loop-i.i → Made (weighed (weight-at)) (λ k. get_or c.args.jobs k no_job) c.args.count (c.loop-i.i - 1 + 1) c.loop-i.row c.loop-i.kept c.loop-i.decisions c.loop-i.mandatory c.loop-i.top = λ l. let next : c.loop-i.i ≡ c.loop-i.i - 1 + 1 = omega arith in
     rw next at c.loop-i.invariant in
-    let top-room : 0 < c.loop-i.i → c.loop-i.top + max_weight < weight_places = λ l. omega (arith, c.loop-i.invariant.top_most, c.loop-i.invariant.within_is, (start_of).requires.0) in
+    let top-room : 0 < c.loop-i.i → c.loop-i.top + max_weight < weight_places = λ l. omega (arith, c.loop-i.invariant.top_most, c.loop-i.invariant.within_is, c.requires.count_le_max_tasks) in
     let light : c.weight_of-weight.result ≤ max_weight =
-    let pre = (start_of).requires.1.1.1 in
-    let small = weighed_most (weight-at) (job-at) max_weight (pre.1.0.1 (job-at).position (pre.0 (c.loop-i.i - 1) (omega (arith, c.loop-i.invariant.within_is)))) in
+    let small = weighed_most (weight-at) (job-at) max_weight (c.requires.weights_len.1 (job-at).position (c.requires.by_index (c.loop-i.i - 1) (omega (arith, c.loop-i.invariant.within_is)))) in
     omega (arith, c.weight_of-weight.ensures, small) in
-    let free : SignFree c.add_part.new.kept (max_weight - c.weight_of-weight.result) (loop-of).loop.row ((loop-of).loop.top + c.weight_of-weight.result + 1) =
-    let a = loop-of in
-    let pre = (start_of a).pre in
-    sign-free _ _ _ pre.0 pre.1.1.0 (a.loop.i - 1) _ _ _ _ _ (inside a (omega arith)) (bounded a (omega arith)) _ _ c.weight_of-weight.ensures (light) c.add_part.ensures in
-    let a = loop-of in
-    let made = a.loop.inv in
-    let room = top-room a (omega arith) in
+    let free : SignFree c.add_part.new.kept (max_weight - c.weight_of-weight.result) c.loop-i.row (c.loop-i.top + c.weight_of-weight.result + 1) =
+    sign-free _ _ _ c.requires.count_le_max_tasks c.requires.count_value (c.loop-i.i - 1) _ _ _ _ _ (inside (omega arith)) (bounded (omega arith)) _ _ c.weight_of-weight.ensures (light) c.add_part.ensures in
+    let room = top-room (omega arith) in
     let small = light in
-    record { places_in_bounds = (omega (arith, made.kept_length, c.add_part.ensures.same_length), omega (arith, made.row_length)); sign_free = free; room_bound = omega (arith, c.room_beside-room.ensures, (bounded a (omega arith)).deadline) }
+    record { places_in_bounds = (omega (arith, c.loop-i.invariant.kept_length, c.add_part.ensures.same_length), omega (arith, c.loop-i.invariant.row_length)); sign_free = free; room_bound = omega (arith, c.room_beside-room.ensures, (bounded (omega arith)).deadline) }
 
 pub most_within-top-requires : goal.most_within-top-requires
 most_within-top-requires c =
-    let start_of : tie.Start invariant-loop decreases-loop = c in
-    let loop-of : tie.At-loop invariant-loop decreases-loop = c in
-    let weight-at : ℕ → ℕ = λ k. get_or (start_of).args.weights.now k 0 in
-    let job-at : Job = get_or (start_of).args.t1 (c.loop-i.i - 1) no_job in
-    let top-room : 0 < c.loop-i.i → c.loop-i.top + max_weight < weight_places = λ l. omega (arith, c.loop-i.invariant.top_most, c.loop-i.invariant.within_is, (start_of).requires.0) in
+    let weight-at : ℕ → ℕ = λ k. get_or c.args.weights.now k 0 in
+    let job-at : Job = get_or c.args.jobs (c.loop-i.i - 1) no_job in
+    let top-room : 0 < c.loop-i.i → c.loop-i.top + max_weight < weight_places = λ l. omega (arith, c.loop-i.invariant.top_most, c.loop-i.invariant.within_is, c.requires.count_le_max_tasks) in
     let light : c.weight_of-weight.result ≤ max_weight =
-    let pre = (start_of).requires.1.1.1 in
-    let small = weighed_most (weight-at) (job-at) max_weight (pre.1.0.1 (job-at).position (pre.0 (c.loop-i.i - 1) (omega (arith, c.loop-i.invariant.within_is)))) in
+    let small = weighed_most (weight-at) (job-at) max_weight (c.requires.weights_len.1 (job-at).position (c.requires.by_index (c.loop-i.i - 1) (omega (arith, c.loop-i.invariant.within_is)))) in
     omega (arith, c.weight_of-weight.ensures, small) in
-    let a = loop-of in
-    omega (arith, a.loop.inv.row_length, c.next_row.ensures.same_length, light, top-room a (omega arith))
+    omega (arith, c.loop-i.invariant.row_length, c.next_row.ensures.same_length, light, top-room (omega arith))
 
 pub loop-i-preserved : goal.loop-i-preserved
 loop-i-preserved c =
-    let start_of : tie.Start invariant-loop decreases-loop = c in
-    let loop-of : tie.At-loop invariant-loop decreases-loop = c in
-    let weight-at : ℕ → ℕ = λ k. get_or (start_of).args.weights.now k 0 in
-    let job-at : Job = get_or (start_of).args.t1 (c.loop-i.i - 1) no_job in
-    let bounded : 0 < c.loop-i.i → Bounded (job-at) = λ l. (start_of).requires.1.0 (c.loop-i.i - 1) (omega (arith, c.loop-i.invariant.within_is)) in
-    let inside : 0 < c.loop-i.i → Made (weighed (weight-at)) (λ k. get_or (start_of).args.t1 k no_job) (start_of).args.count (c.loop-i.i - 1 + 1) c.loop-i.row c.loop-i.auto c.loop-i.decisions c.loop-i.mandatory c.loop-i.top = λ l. let next : c.loop-i.i ≡ c.loop-i.i - 1 + 1 = omega arith in
+    let weight-at : ℕ → ℕ = λ k. get_or c.args.weights.now k 0 in
+    let job-at : Job = get_or c.args.jobs (c.loop-i.i - 1) no_job in
+    let bounded : 0 < c.loop-i.i → Bounded (job-at) = λ l. c.requires.all_bounded (c.loop-i.i - 1) (omega (arith, c.loop-i.invariant.within_is)) in
+    let inside : 0 < c.loop-i.i → Made (weighed (weight-at)) (λ k. get_or c.args.jobs k no_job) c.args.count (c.loop-i.i - 1 + 1) c.loop-i.row c.loop-i.kept c.loop-i.decisions c.loop-i.mandatory c.loop-i.top = λ l. let next : c.loop-i.i ≡ c.loop-i.i - 1 + 1 = omega arith in
     rw next at c.loop-i.invariant in
     let light : c.weight_of-weight.result ≤ max_weight =
-    let pre = (start_of).requires.1.1.1 in
-    let small = weighed_most (weight-at) (job-at) max_weight (pre.1.0.1 (job-at).position (pre.0 (c.loop-i.i - 1) (omega (arith, c.loop-i.invariant.within_is)))) in
+    let small = weighed_most (weight-at) (job-at) max_weight (c.requires.weights_len.1 (job-at).position (c.requires.by_index (c.loop-i.i - 1) (omega (arith, c.loop-i.invariant.within_is)))) in
     omega (arith, c.weight_of-weight.ensures, small) in
-    let a = loop-of in
-    let pre = (start_of a).pre in
-    made-step _ _ _ pre.0 pre.1.1.0 (a.loop.i - 1) _ _ _ _ _ (inside a (omega arith)) (bounded a (omega arith)) _ _ c.weight_of-weight.ensures (light)
+    made-step _ _ _ c.requires.count_le_max_tasks c.requires.count_value (c.loop-i.i - 1) _ _ _ _ _ (inside (omega arith)) (bounded (omega arith)) _ _ c.weight_of-weight.ensures (light)
     c.add_part.ensures _ _ _ _ c.room_beside-room.ensures c.decide.ensures c.next_row.ensures c.most_within-top.ensures
 
 pub shape_of-row : goal.shape_of-row
 shape_of-row c =
-    let start_of : tie.Start invariant-loop decreases-loop = c in
-    let lent = (start_of).pre.1.1.1.1.1.0.0 in
+    let lent = c.requires.row_value.0 in
     c.loop-i.invariant.row_length ∙ sym (ap length lent ∙ length-replicate weight_places huge_ticks)
 
 pub shape_of-kept : goal.shape_of-kept
 shape_of-kept c =
-    let start_of : tie.Start invariant-loop decreases-loop = c in
-    let lent = (start_of).pre.1.1.1.1.1.0.1 in
+    let lent = c.requires.row_value.1 in
     c.loop-i.invariant.kept_length ∙ sym (ap length lent ∙ length-replicate weight_places huge_ticks)
 
 pub shape_of-decisions : goal.shape_of-decisions
 shape_of-decisions c =
-    let start_of : tie.Start invariant-loop decreases-loop = c in
-    let lent = (start_of).pre.1.1.1.1.1.1 in
+    let lent = c.requires.decisions_value in
     c.loop-i.invariant.words ∙ sym (ap length lent ∙ length-replicate {A = ℕ} weight_places 0)
 
 pub returns : goal.returns
 returns c =
-    let start_of : tie.Start invariant-loop decreases-loop = c in
     let end : c.loop-i.i ≡ 0 = omega arith in
-    let args = (start_of).args in
-    let start = left_start (λ k. get_or args.t1 k no_job) args.count in
+    let start = left_start (λ k. get_or c.args.jobs k no_job) c.args.count in
     record {
       words = c.loop-i.invariant.words;
-      within = omega (arith, c.loop-i.invariant.top_most, (start_of).pre.0);
+      within = omega (arith, c.loop-i.invariant.top_most, c.requires.count_le_max_tasks);
       decided = rw end at c.loop-i.invariant.decided;
       last = rw (end, start) at c.loop-i.invariant.last;
     }

@@ -1,0 +1,14 @@
+-- `sequencing::rows_of` meets its contract: the rows are built from the first job in similar order to the last.
+use Prim.Native.Nat.{◌-◌}
+use lib.ListN.{length, get_or}
+use Rattle.schedule.specs.JobArrays.{no_job}
+use Rattle.sequence.proofs.KeptRowLaws.{Built}
+use Rattle.sequencing.proofs.rows_of.Given as goal
+
+abbrev pub invariant-loop-i : goal.invariant-loop-i
+invariant-loop-i l =
+    Built (length l.initial.rows) (λ k. get_or l.jobs k no_job) l.count l.i l.rows l.most l.mandatory
+
+abbrev pub decreases-loop-i : goal.decreases-loop-i
+decreases-loop-i l =
+    l.i
