@@ -1,4 +1,3 @@
-use Prim.Native.Nat.{◌-◌}
 use native.Mathlib.Omega.{arith}
 use Rattle.columns.proofs.ColumnLaws.{copied_start, copied_next, copied_end}
 use Rattle.columns.proofs.copy.Goals as goal

@@ -9,7 +9,7 @@ use Rattle.conversion.proofs.put_task.Goals as goal
 
 pub slice_bounds-put_numbers-end : goal.slice_bounds-put_numbers-end
 slice_bounds-put_numbers-end c =
-    sym (length-take-le _ _ (array-share-prefix-others c))
+    sym (length-take-le _ _ (omega arith))
 
 pub put_numbers-requires : goal.put_numbers-requires
 unfolding row_line

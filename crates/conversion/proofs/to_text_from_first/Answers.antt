@@ -13,7 +13,7 @@ use Rattle.conversion.proofs.to_text_from_first.Goals as goal
 
 pub slice_bounds-to_text-end : goal.slice_bounds-to_text-end
 slice_bounds-to_text-end c =
-    sym (length-take-le _ _ (array-share-prefix-first c))
+    sym (length-take-le _ _ (omega arith))
 
 pub returns : goal.returns
 unfolding text_reply file_length bytes_for

@@ -13,7 +13,7 @@ use Rattle.conversion.proofs.weighted_to_text_from_first.Goals as goal
 
 pub slice_bounds-weighted_to_text-end : goal.slice_bounds-weighted_to_text-end
 slice_bounds-weighted_to_text-end c =
-    sym (length-take-le _ _ (array-share-prefix-first c))
+    sym (length-take-le _ _ (omega arith))
 
 pub returns : goal.returns
 unfolding weighted_text_reply weighted_length bytes_for

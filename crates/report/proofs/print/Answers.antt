@@ -36,7 +36,9 @@ slice_bounds-marks-end c =
 
 pub slice_bounds-put_plan-end : goal.slice_bounds-put_plan-end
 slice_bounds-put_plan-end c =
-    sym (length-take-le _ _ (array-share-prefix-marks c))
+    let left : FilePlan = c.plan_file-plan.result in
+    let in-lists : PlanInLists c.args.launch c.args.file.now (left) = plan_in_lists _ _ _ c.plan_file-plan.ensures c.if-reply-ne0.false in
+    sym (length-take-le _ _ in-lists.marks_there)
 
 pub slice_bounds-starts-end : goal.slice_bounds-starts-end
 slice_bounds-starts-end c =
@@ -46,7 +48,9 @@ slice_bounds-starts-end c =
 
 pub slice_bounds-put_plan-end-2 : goal.slice_bounds-put_plan-end-2
 slice_bounds-put_plan-end-2 c =
-    sym (length-take-le _ _ (array-share-prefix-starts c))
+    let left : FilePlan = c.plan_file-plan.result in
+    let in-lists : PlanInLists c.args.launch c.args.file.now (left) = plan_in_lists _ _ _ c.plan_file-plan.ensures c.if-reply-ne0.false in
+    sym (length-take-le _ _ in-lists.starts_there)
 
 pub slice_bounds-ends-end : goal.slice_bounds-ends-end
 slice_bounds-ends-end c =
@@ -56,7 +60,9 @@ slice_bounds-ends-end c =
 
 pub slice_bounds-put_plan-end-3 : goal.slice_bounds-put_plan-end-3
 slice_bounds-put_plan-end-3 c =
-    sym (length-take-le _ _ (array-share-prefix-ends c))
+    let left : FilePlan = c.plan_file-plan.result in
+    let in-lists : PlanInLists c.args.launch c.args.file.now (left) = plan_in_lists _ _ _ c.plan_file-plan.ensures c.if-reply-ne0.false in
+    sym (length-take-le _ _ in-lists.ends_there)
 
 pub slice_bounds-tasks-end : goal.slice_bounds-tasks-end
 slice_bounds-tasks-end c =
@@ -66,7 +72,9 @@ slice_bounds-tasks-end c =
 
 pub slice_bounds-put_plan-end-4 : goal.slice_bounds-put_plan-end-4
 slice_bounds-put_plan-end-4 c =
-    sym (length-take-le _ _ (array-share-prefix-tasks c))
+    let left : FilePlan = c.plan_file-plan.result in
+    let in-lists : PlanInLists c.args.launch c.args.file.now (left) = plan_in_lists _ _ _ c.plan_file-plan.ensures c.if-reply-ne0.false in
+    sym (length-take-le _ _ in-lists.tasks_there)
 
 pub put_plan-requires : goal.put_plan-requires
 put_plan-requires c =
@@ -76,8 +84,8 @@ put_plan-requires c =
     printed_planned _ _ (left).reply (reply_left _ _ _ c.plan_file-plan.ensures) c.if-reply-ne0.false _ _ _ m.count_is m.marks_are m.runs_are in
     record {
       one_length = (
-        sym (slice-aggregate-put-plan-2 c) ∙ slice-aggregate-put-plan-3 c,
-        sym (slice-aggregate-put-plan-2 c) ∙ slice-aggregate-put-plan-4 c,
+        length-take-le _ _ in-lists.starts_there ∙ sym (length-take-le _ _ in-lists.ends_there),
+        length-take-le _ _ in-lists.starts_there ∙ sym (length-take-le _ _ in-lists.tasks_there),
       );
       tasks_in_bounds = rw (text-is) (omega (arith, printed_length c.args.launch c.args.file.now, c.if-out-lt-MAX_TEXT.false));
     }

@@ -11,7 +11,7 @@ use Rattle.report.proofs.print_from_first.Goals as goal
 
 pub slice_bounds-print_input-end : goal.slice_bounds-print_input-end
 slice_bounds-print_input-end c =
-    sym (length-take-le _ _ (array-share-prefix-first c))
+    sym (length-take-le _ _ (omega arith))
 
 pub returns : goal.returns
 unfolding file_length bytes_for

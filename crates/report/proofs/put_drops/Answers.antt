@@ -14,18 +14,17 @@ loop-i-init c =
 
 pub put_drop-next-requires : goal.put_drop-next-requires
 put_drop-next-requires c =
-    let start : tie.Start invariant-loop decreases-loop = c in
-    let next-line : let a = (start).args in Putting (drop_lines a.marks.now) a.at a.out.now (line drop_word (c.loop-i.i ∷ []) ++ drops_left a.marks.now (c.loop-i.i + 1)) c.loop-i.next c.loop-i.out = rw (drops_step (start).args.marks.now c.loop-i.i c.loop-i-test.true c.if-marks-i-eq0.true) at c.loop-i.invariant.1 in
-    putting_fits _ _ _ (start).pre (line drop_word (c.loop-i.i ∷ [])) _ _ _ (next-line)
+    let next-line : Putting (drop_lines c.args.marks.now) c.args.at c.args.out.now (line drop_word (c.loop-i.i ∷ []) ++ drops_left c.args.marks.now (c.loop-i.i + 1)) c.loop-i.next c.loop-i.out = rw (drops_step c.args.marks.now c.loop-i.i c.loop-i-test.true c.if-marks-i-eq0.true) at c.loop-i.invariant.1 in
+    putting_fits _ _ _ c.requires (line drop_word (c.loop-i.i ∷ [])) _ _ _ (next-line)
 
 pub loop-i-preserved : goal.loop-i-preserved
 loop-i-preserved c =
-    let start : tie.Start invariant-loop decreases-loop = c in
-    let next-line : let a = (start).args in Putting (drop_lines a.marks.now) a.at a.out.now (line drop_word (c.loop-i.i ∷ []) ++ drops_left a.marks.now (c.loop-i.i + 1)) c.loop-i.next c.loop-i.out = rw (drops_step (start).args.marks.now c.loop-i.i c.loop-i-test.true c.if-marks-i-eq0.true) at c.loop-i.invariant.1 in
     elim c.if-marks-i-eq0.branch [
-      | then-marks-i-eq0 w ↦ let line : tie.Then1 invariant-loop decreases-loop = record { before = c; if1 = w.0 } in
-          (omega arith, rw (w.5, w.6) (putting_step _ _ _ c.requires _ _ _ _ _ _ (next-line line) w.2.ensures))
-      | else-marks-i-eq0 w ↦ (omega arith, rw (w.1, w.2, ← drops_skip c.args.marks.now c.loop-i.i c.loop-i-test.true w.if-marks-i-eq0.false) c.loop-i.invariant.1)
+      | then-marks-i-eq0 w ↦
+          let next-line : Putting (drop_lines c.args.marks.now) c.args.at c.args.out.now (line drop_word (c.loop-i.i ∷ []) ++ drops_left c.args.marks.now (c.loop-i.i + 1)) c.loop-i.next c.loop-i.out =
+          rw (drops_step c.args.marks.now c.loop-i.i c.loop-i-test.true w.if-marks-i-eq0.true) at c.loop-i.invariant.1 in
+          (omega arith, rw (w.next-is, w.out-is) (putting_step _ _ _ c.requires _ _ _ _ _ _ next-line w.put_drop-next.ensures))
+      | else-marks-i-eq0 w ↦ (omega arith, rw (w.next-is, w.out-is, ← drops_skip c.args.marks.now c.loop-i.i c.loop-i-test.true w.if-marks-i-eq0.false) c.loop-i.invariant.1)
     ]
 
 pub shape_of-out : goal.shape_of-out
