@@ -1,9 +1,9 @@
 // Text on standard output.
-use libc::STDOUT_FILENO;
+use crate::STDOUT;
 
 // Bytes as they are.
 pub fn text(bytes: &[u8]) {
-    io::write_all(STDOUT_FILENO, bytes);
+    io::write_all(STDOUT, bytes);
 }
 
 // A pattern, with the next of the numbers, in decimal, for each `#`.
@@ -15,7 +15,7 @@ pub fn show(pattern: &[u8], numbers: &[u64]) {
         if pattern[i] != b'#' {
             text(&pattern[i..next]);
         } else if used < numbers.len() {
-            io::print_decimal(STDOUT_FILENO, numbers[used]);
+            io::print_decimal(STDOUT, numbers[used]);
             used += 1;
         }
         i = next;

@@ -2,8 +2,8 @@
 // what runs at the tick, what runs next and the runs of so many ticks from it on, or the refusal.
 #![tactic(auto)]
 
-use libc::{STDIN_FILENO, STDOUT_FILENO};
+use programs::{STDIN, STDOUT};
 
 fn main() {
-    programs::now(STDIN_FILENO, STDOUT_FILENO);
+    programs::now(STDIN, STDOUT);
 }

@@ -1,8 +1,8 @@
 // The program: plans the table file that follows a launch tick on standard input, and prints its plan or its refusal on standard output.
 #![tactic(auto)]
 
-use libc::{STDIN_FILENO, STDOUT_FILENO};
+use programs::{STDIN, STDOUT};
 
 fn main() {
-    programs::plan(STDIN_FILENO, STDOUT_FILENO);
+    programs::plan(STDIN, STDOUT);
 }

@@ -12,6 +12,11 @@ mod to_text;
 pub use from_text::{table_from_text, weighted_from_text};
 pub use to_text::{table_to_text, weighted_to_text};
 
+// The descriptors of the standard streams.
+pub const STDIN: i32 = 0;
+pub const STDOUT: i32 = 1;
+pub const STDERR: i32 = 2;
+
 // Plans the table file of an input at the launch tick before it, and prints its plan or its refusal.
 pub fn plan(input: i32, output: i32) {
     let mut first = [0u8; INPUT_BYTES];

@@ -4,7 +4,10 @@
 // and behind the line `output` what is written to standard output.
 #![tactic(auto)]
 
-use libc::{STDIN_FILENO, STDOUT_FILENO};
+use cases::{STDIN, STDOUT};
+use std::fs;
+use std::fs::File;
+use std::os::fd::AsRawFd;
 
 // A descriptor that is not open: what is written there is lost.
 const CLOSED: i32 = -1;
@@ -24,30 +27,32 @@ fn run(start: u8, input: i32, output: i32, errors: i32) {
 }
 
 // Opens the file of a name, from its start, and runs a program on it.
-fn run_on(start: u8, name: &[u8], output: i32, errors: i32) {
-    let input = os::open_read(name);
-    if input < 0 {
+fn run_on(rt: &HostRuntime, start: u8, name: &[u8], output: i32, errors: i32) {
+    let Ok(name) = str::from_utf8(name) else {
         cases::text(b"no such file\n");
         return;
-    }
-    run(start, input, output, errors);
-    libc::close(input);
+    };
+    let Ok(file) = File::open(rt, name) else {
+        cases::text(b"no such file\n");
+        return;
+    };
+    run(start, file.as_raw_fd(), output, errors);
 }
 
 // Runs a program on the file of a name, so that each of its streams is seen alone.
-fn run_by_streams(start: u8, name: &[u8]) {
+fn run_by_streams(rt: &HostRuntime, start: u8, name: &[u8]) {
     if start == b'p' || start == b'n' {
-        run_on(start, name, STDOUT_FILENO, CLOSED);
+        run_on(rt, start, name, STDOUT, CLOSED);
         return;
     }
     cases::text(b"errors\n");
-    run_on(start, name, CLOSED, STDOUT_FILENO);
+    run_on(rt, start, name, CLOSED, STDOUT);
     cases::text(b"output\n");
-    run_on(start, name, STDOUT_FILENO, CLOSED);
+    run_on(rt, start, name, STDOUT, CLOSED);
 }
 
 // The case on a line that ends with a newline, or with no byte behind the name.
-fn case(line: &[u8]) {
+fn case(rt: &HostRuntime, line: &[u8]) {
     cases::text(line);
     let name = cases::start_of(line, 1);
     if line.len() - name < 2 {
@@ -55,21 +60,21 @@ fn case(line: &[u8]) {
     }
     let first = name + 1;
     let end = line.len() - 1;
-    run_by_streams(line[0], &line[first..end]);
+    run_by_streams(rt, line[0], &line[first..end]);
 }
 
 // The cases of a text, line by line.
-fn all(text: &[u8]) {
+fn all(rt: &HostRuntime, text: &[u8]) {
     let mut start: usize = 0;
     while start < text.len() {
         let next = cases::next_line(text, start);
-        case(&text[start..next]);
+        case(rt, &text[start..next]);
         start = next;
     }
 }
 
-fn main() {
+fn main(rt: HostRuntime) {
     let mut text = io::large_buffer();
-    let length = io::read_full(STDIN_FILENO, &mut text);
-    all(&text[..length]);
+    let length = io::read_full(STDIN, &mut text);
+    all(&rt, &text[..length]);
 }

@@ -6,7 +6,7 @@
 // that starts with `short` has bytes that are printed, as a file and as an input, into a list of 100 bytes.
 #![tactic(auto)]
 
-use libc::STDIN_FILENO;
+use cases::STDIN;
 use report::{INPUT_BYTES, MAX_TEXT};
 
 // Prints the bytes at the front of a list, and a line behind them.
@@ -75,6 +75,6 @@ fn all(text: &[u8]) {
 
 fn main() {
     let mut text = io::large_buffer();
-    let length = io::read_full(STDIN_FILENO, &mut text);
+    let length = io::read_full(STDIN, &mut text);
     all(&text[..length]);
 }

@@ -16,7 +16,7 @@
 ghost use Rattle.std.specs.Prelude.{◌≤◌};
 ghost use Rattle.records.specs.RecordColumns.{LegalColumns};
 
-use libc::STDIN_FILENO;
+use cases::STDIN;
 use records::{MAX_COPIED, RunColumns};
 use schedule::{Busy, Found, Judged, Run, Stretch};
 
@@ -207,6 +207,6 @@ fn all(text: &[u8]) {
 
 fn main() {
     let mut text = io::large_buffer();
-    let length = io::read_full(STDIN_FILENO, &mut text);
+    let length = io::read_full(STDIN, &mut text);
     all(&text[..length]);
 }

@@ -1,5 +1,5 @@
 // Lists of bytes that are lent to a call.
-use libc::STDOUT_FILENO;
+use cases::STDOUT;
 use table::Written;
 
 // Two lists have the same length and the same bytes.
@@ -34,7 +34,7 @@ fn show(list: &[u8]) {
             cases::text(b"\n  bytes");
         }
         cases::text(b" ");
-        io::print_hex(STDOUT_FILENO, wide(list[i]), 2);
+        io::print_hex(STDOUT, wide(list[i]), 2);
         i += 1;
     }
     cases::text(b"\n");

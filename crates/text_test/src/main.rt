@@ -17,7 +17,7 @@ mod conversions;
 
 ghost use Rattle.io.specs.Counts.{IsPrefixLen};
 
-use libc::STDIN_FILENO;
+use cases::STDIN;
 use table::{Table, Task};
 use table_text::{Parsed, WeightedParsed};
 
@@ -169,6 +169,6 @@ fn all(text: &[u8]) {
 
 fn main() {
     let mut text = io::large_buffer();
-    let length = io::read_full(STDIN_FILENO, &mut text);
+    let length = io::read_full(STDIN, &mut text);
     all(&text[..length]);
 }

@@ -14,7 +14,7 @@ mod reads;
 mod tables;
 mod writes;
 
-use libc::STDIN_FILENO;
+use cases::STDIN;
 
 // The case on a line that starts with a given byte.
 fn case(start: u8, line: &[u8]) {
@@ -43,6 +43,6 @@ fn all(text: &[u8]) {
 
 fn main() {
     let mut text = io::large_buffer();
-    let length = io::read_full(STDIN_FILENO, &mut text);
+    let length = io::read_full(STDIN, &mut text);
     all(&text[..length]);
 }

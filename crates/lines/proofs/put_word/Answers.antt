@@ -1,4 +1,3 @@
-use Prim.Native.Nat.{◌-◌}
 use native.Mathlib.Omega.{arith}
 use Rattle.lines.proofs.PutLaws.{copied_start, copied_next, copied_end}
 use Rattle.lines.proofs.put_word.Goals as goal
