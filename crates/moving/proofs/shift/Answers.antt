@@ -8,7 +8,7 @@ use Rattle.base.specs.Limits.{max_tasks}
 use Rattle.table.specs.declared.Table.{Table}
 use Rattle.table.specs.declared.Answer.TheVariants.{Accepted}
 use Rattle.table.specs.Layout.{file_length}
-use Rattle.table.specs.Answers.{number_of, place_of, is_accepted, declined, wrote}
+use Rattle.table.specs.Answers.{number_of, place_of, is_accepted, declined}
 use Rattle.table.specs.Reading.{table_in, read_answer}
 use Rattle.table.specs.Moving.{first_outside, moved_table}
 use Rattle.table.proofs.AnswerLaws.{told_refused, refused_number}

@@ -1,10 +1,8 @@
-use Prim.Native.Nat.{◌-◌}
 use mathlib.Core.Path.{◌∙◌, sym}
 use native.Mathlib.Omega.{arith}
 use Rattle.base.proofs.LowestLaws.{search_start, search_found, search_passed, search_end}
 use Rattle.table.specs.declared.Answer.TheVariants.{Weight}
 use Rattle.table.proofs.AnswerLaws.{found_refuses, not_found}
-use Rattle.weighted_file.specs.Weights.{bad_weight}
 use Rattle.weighted_file.proofs.weight_answer.Goals as goal
 
 pub loop-k-init : goal.loop-k-init

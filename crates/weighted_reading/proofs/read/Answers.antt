@@ -1,6 +1,5 @@
 -- `weighted_reading::read` meets its contract: the answer that needs no row, else the rules' answer, else the weighted table.
 use mathlib.Core.Path.{◌≡◌, ◌∙◌, sym, ap}
-use borrow.Author.Rules.{rules}
 use Rattle.table.specs.declared.Answer.TheVariants.{Accepted}
 use Rattle.table.specs.Tables.{table_of}
 use Rattle.table.specs.Answers.{is_accepted}

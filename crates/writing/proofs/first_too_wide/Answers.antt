@@ -1,9 +1,8 @@
-use Prim.Native.Nat.{◌-◌}
 use mathlib.Core.Path.{◌∙◌, sym}
 use native.Mathlib.Omega.{arith}
 use Rattle.base.proofs.LowestLaws.{search_start, search_found, search_passed, search_end}
 use Rattle.table.specs.Tables.{task_at}
-use Rattle.table.specs.Writing.{too_wide, first_too_wide}
+use Rattle.table.specs.Writing.{first_too_wide}
 use Rattle.writing.proofs.first_too_wide.Goals as goal
 
 pub loop-k-init : goal.loop-k-init

@@ -1,7 +1,6 @@
 -- `writing::rows_reply` meets its contract: each return knows the tests that led there, in their order.
 use mathlib.Core.Path.{◌≡◌, ◌∙◌, sym, ap₂}
 use mathlib.Core.Bool.{false}
-use borrow.Author.Rules.{rules}
 use Rattle.base.specs.Limits.{bad_period}
 use Rattle.table.specs.Answers.{declined}
 use Rattle.table.proofs.AnswerLaws.{told_refused}
