@@ -1,13 +1,11 @@
 -- What the check finds in the columns of a run list is what the definitions say of the list.
 use Prim.Native.Nat.{ℕ, zero, suc, ◌≤◌, ◌<◌}
 use mathlib.Core.Path.{◌≡◌, refl}
-use mathlib.Core.List.{List, [], ◌∷◌}
+use mathlib.Core.List.{List}
 use mathlib.Core.Bool.{Bool, false, not}
 use native.Mathlib.Omega.{arith}
 use lib.Dec.{ltb}
 use lib.ListN.{length, get_or}
-use types.Run.{OneOf, miss}
-use denote.Enum.Declared.{tag_of}
 use borrow.Author.Tests.{ltb-false}
 use Rattle.base.specs.Limits.{max_runs}
 use Rattle.base.specs.Tests.{or}
@@ -18,7 +16,6 @@ use Rattle.schedule.specs.declared.RunsAnswer.TheVariants as checked
 use Rattle.schedule.specs.Runs.{too_many, runs_of}
 use Rattle.schedule.specs.RunCheck.{previous_end, out_of_order, first_out_of_order, check_answer, runs_accepted}
 use Rattle.checking.specs.SomeOutOfOrder.{some_out_of_order}
-use Rattle.schedule.specs.contracts.RunsAnswer.{the_type}
 use Rattle.schedule.proofs.ColumnLaws.{columns_length, start_at_lem, end_at}
 use Rattle.schedule.proofs.CheckLaws.{accepted_known}
 

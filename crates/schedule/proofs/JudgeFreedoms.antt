@@ -10,7 +10,6 @@ use borrow.Author.Tests.{leb-true, ltb-true, ltb-false, le-leb, lt-ltb}
 use Rattle.base.specs.Tests.{pick, and}
 use Rattle.base.proofs.TestLaws.{cases, pick_same}
 use Rattle.base.proofs.LowestLaws.{every_same}
-use Rattle.base.proofs.LowestLaws as lowest-laws
 use Rattle.base.specs.Members.{every_member}
 use Rattle.table.specs.declared.Table.{Table}
 use Rattle.table.specs.Answers.{is_accepted}

@@ -14,7 +14,6 @@ use Rattle.base.specs.Tests.{and}
 use Rattle.base.specs.Places.{places_from, places}
 use Rattle.base.proofs.TestLaws.{and_left, and_right, same_test}
 use Rattle.base.proofs.PlaceLaws.{left_start, left_step, left_end}
-use Rattle.base.specs.Sums.{total}
 use Rattle.base.specs.Members.{every_member}
 use Rattle.schedule.specs.declared.Job.{Job}
 use Rattle.schedule.specs.declared.Run.{Run}

@@ -14,7 +14,7 @@ use Rattle.base.specs.Tests.{pick}
 use Rattle.base.specs.Lowest.{lowest}
 use Rattle.base.specs.Members.{All}
 use Rattle.base.proofs.TestLaws.{cases, both_absurd}
-use Rattle.base.proofs.LowestLaws.{before, passes, lowest_bound, lowest_least}
+use Rattle.base.proofs.LowestLaws.{passes, lowest_bound, lowest_least}
 use Rattle.base.proofs.MemberLaws.{all_map}
 use Rattle.schedule.specs.declared.Run.{Run}
 use Rattle.schedule.specs.declared.RunsAnswer.TheVariants as checked

@@ -1,9 +1,8 @@
-use Rattle.std.proofs.Common.{◌≡◌, ◌+◌, get_or, slice_set, List, length, ℕ, sym, ap, ◌∙◌, refl, arith, rules}
-use mathlib.Core.Path.{ap₂}
+use Rattle.std.proofs.Common.{◌≡◌, ◌+◌, get_or, slice_set, List, ℕ, ◌∙◌, refl, arith}
 use Rattle.schedule.specs.declared.Run.{Run}
 use Rattle.schedule.specs.Runs.{no_run}
-use Rattle.records.specs.RecordColumns.{filled, start_of, end_of, task_number, columns_of, copied_count, made_of}
-use Rattle.records.proofs.RecordLaws.{filled_none, filled_next, filled_length, columns_made}
+use Rattle.records.specs.RecordColumns.{filled, start_of, end_of, task_number, columns_of}
+use Rattle.records.proofs.RecordLaws.{filled_none, filled_next}
 use Rattle.records.proofs.columns_of.Goals as goal
 
 -- one more place of a column is filled with a number of the run that was read

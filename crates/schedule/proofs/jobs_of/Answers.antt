@@ -1,4 +1,3 @@
-use Prim.Native.Nat.{◌-◌}
 use native.Mathlib.Omega.{arith}
 use Rattle.base.proofs.ArrayFilling.{filled_start, filled_set, filled_whole}
 use Rattle.table.specs.Tables.{task_at}

@@ -9,4 +9,4 @@ invariant-loop-i l =
 
 abbrev pub decreases-loop-i : goal.decreases-loop-i
 decreases-loop-i l =
-    length l.list - i
+    length l.list - l.i
