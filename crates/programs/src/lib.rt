@@ -14,7 +14,9 @@ pub use to_text::{table_to_text, weighted_to_text};
 
 // The descriptors of the standard streams.
 pub const STDIN: i32 = 0;
+
 pub const STDOUT: i32 = 1;
+
 pub const STDERR: i32 = 2;
 
 // Plans the table file of an input at the launch tick before it, and prints its plan or its refusal.

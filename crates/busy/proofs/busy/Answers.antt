@@ -1,5 +1,5 @@
 -- `busy::busy` meets its contract: it is `busy_copied` of the runs' columns.
-use Rattle.std.proofs.Common.{◌≡◌, ◌∙◌}
+use Rattle.std.proofs.Common.{◌∙◌}
 use Rattle.schedule.specs.BusyCount.{busy_reply}
 use Rattle.schedule.proofs.BusyLaws.{counts_ticks}
 use Rattle.schedule.proofs.ManyRuns.{busy_many}

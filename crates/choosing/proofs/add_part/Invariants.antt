@@ -1,5 +1,4 @@
 -- `choosing::add_part` meets its contract. The loop's invariant: the part is put in above place v, and up to it the row is as it was.
-use Prim.Native.Nat.{◌-◌}
 use Rattle.choice.specs.Decisions.{PutAbove}
 use Rattle.choosing.proofs.add_part.Given as goal
 

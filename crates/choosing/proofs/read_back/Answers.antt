@@ -1,4 +1,3 @@
-use Prim.Native.Nat.{◌-◌}
 use mathlib.Core.Path.{◌∙◌}
 use native.Mathlib.Omega.{arith}
 use Rattle.choice.proofs.BackLaws.{walked_start, walked_decision, walked_kept, walked_discarded, walked_end}

@@ -1,5 +1,4 @@
 -- `choosing::rows_of` meets its contract: the rows are built from the innermost job outwards.
-use Prim.Native.Nat.{◌-◌}
 use lib.ListN.{get_or}
 use Rattle.schedule.specs.JobArrays.{no_job}
 use Rattle.choice.proofs.BuildLaws.{Built}

@@ -32,7 +32,9 @@ slice_bounds-starts-end c =
 
 pub slice_bounds-put_now-end : goal.slice_bounds-put_now-end
 slice_bounds-put_now-end c =
-    sym (length-take-le _ _ (array-share-prefix-starts c))
+    let left : FilePlan = c.plan_file-plan.result in
+    let in-lists : PlanInLists c.args.launch c.args.file.now (left) = plan_in_lists _ _ _ c.plan_file-plan.ensures c.if-reply-ne0.false in
+    sym (length-take-le _ _ in-lists.starts_there)
 
 pub slice_bounds-ends-end : goal.slice_bounds-ends-end
 slice_bounds-ends-end c =
@@ -42,7 +44,9 @@ slice_bounds-ends-end c =
 
 pub slice_bounds-put_now-end-2 : goal.slice_bounds-put_now-end-2
 slice_bounds-put_now-end-2 c =
-    sym (length-take-le _ _ (array-share-prefix-ends c))
+    let left : FilePlan = c.plan_file-plan.result in
+    let in-lists : PlanInLists c.args.launch c.args.file.now (left) = plan_in_lists _ _ _ c.plan_file-plan.ensures c.if-reply-ne0.false in
+    sym (length-take-le _ _ in-lists.ends_there)
 
 pub slice_bounds-tasks-end : goal.slice_bounds-tasks-end
 slice_bounds-tasks-end c =
@@ -52,7 +56,9 @@ slice_bounds-tasks-end c =
 
 pub slice_bounds-put_now-end-3 : goal.slice_bounds-put_now-end-3
 slice_bounds-put_now-end-3 c =
-    sym (length-take-le _ _ (array-share-prefix-tasks c))
+    let left : FilePlan = c.plan_file-plan.result in
+    let in-lists : PlanInLists c.args.launch c.args.file.now (left) = plan_in_lists _ _ _ c.plan_file-plan.ensures c.if-reply-ne0.false in
+    sym (length-take-le _ _ in-lists.tasks_there)
 
 pub put_now-requires : goal.put_now-requires
 put_now-requires c =
@@ -63,8 +69,8 @@ put_now-requires c =
     (in-lists).runs_are in
     record {
       one_length = (
-        sym (slice-aggregate-put-now c) ∙ slice-aggregate-put-now-2 c,
-        sym (slice-aggregate-put-now c) ∙ slice-aggregate-put-now-3 c,
+        length-take-le _ _ in-lists.starts_there ∙ sym (length-take-le _ _ in-lists.ends_there),
+        length-take-le _ _ in-lists.starts_there ∙ sym (length-take-le _ _ in-lists.tasks_there),
       );
       span_in_bounds = rw (text-is) (omega (arith, now_length c.args.launch c.args.tick c.args.span c.args.file.now, c.if-out-lt-MAX_TEXT.false));
     }

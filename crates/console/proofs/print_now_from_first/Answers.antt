@@ -11,7 +11,7 @@ use Rattle.console.proofs.print_now_from_first.Goals as goal
 
 pub slice_bounds-print_now_input-end : goal.slice_bounds-print_now_input-end
 slice_bounds-print_now_input-end c =
-    sym (length-take-le _ _ (array-share-prefix-first c))
+    sym (length-take-le _ _ (omega arith))
 
 pub returns : goal.returns
 unfolding file_length bytes_for

@@ -5,28 +5,25 @@ use mathlib.Core.List.{List, [], ◌∷◌, ◌++◌}
 use mathlib.Core.Bool.{false}
 use native.Mathlib.Omega.{arith}
 use lib.ListN.{length, length-append}
-use types.Run.{OneOf, miss}
-use denote.Enum.Declared.{tag_of}
 use Rattle.lines.specs.Text.{line}
 use Rattle.lines.proofs.PutLaws.{put_join}
 use Rattle.schedule.specs.declared.Run.{Run}
 use Rattle.schedule.specs.declared.Found.{Found}
 use Rattle.schedule.specs.declared.Found.TheVariants as found
 use Rattle.schedule.specs.Queries.{is_found}
-use Rattle.schedule.specs.contracts.Found.{the_type}
 use Rattle.printed_plan.specs.Printing.{run_numbers}
 use Rattle.printed_plan.specs.NowText.{none_word, found_line}
 use Rattle.console.proofs.put_found.Goals as goal
 
 -- in the `else` branch of a `let .. else` on the answer there is no run
-none_told : (answer : Found) → OneOf (1 ∷ 2 ∷ 3 ∷ []) (tag_of the_type answer) → is_found answer ≡ false
-none_told (found.One run) o = absurd (miss (1 ∷ 2 ∷ 3 ∷ []) 0 tt o)
+none_told : (answer : Found) → ((run : Run) → answer ≡ found.One run → ⊥) → is_found answer ≡ false
+none_told (found.One run) o = absurd (o run refl)
 none_told found.None o = refl
 none_told found.TooMany o = refl
 none_told (found.OutOfOrder index) o = refl
 
 -- so the line has NONE behind its word
-none-line : (word : List ℕ) (answer : Found) → OneOf (1 ∷ 2 ∷ 3 ∷ []) (tag_of the_type answer) → word ++ line none_word [] ≡ found_line word answer
+none-line : (word : List ℕ) (answer : Found) → ((run : Run) → answer ≡ found.One run → ⊥) → word ++ line none_word [] ≡ found_line word answer
 unfolding found_line
 none-line word answer o = rw (none_told answer o)
 

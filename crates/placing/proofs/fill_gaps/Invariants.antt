@@ -1,5 +1,4 @@
 -- `placing::fill_gaps` meets its contract. The loop's invariant: the gaps above the runs from place k on are filled.
-use Prim.Native.Nat.{◌-◌}
 use Rattle.schedule.specs.Runs.{run_at_index}
 use Rattle.placement.specs.HeldRuns.{Room}
 use Rattle.placement.proofs.FillLaws.{Passed}

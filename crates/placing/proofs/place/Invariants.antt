@@ -1,6 +1,6 @@
 -- `placing::place` meets its contract. The loop's invariant: the columns hold the runs of the jobs from place i on, and there are i places
 -- and more below them.
-use Prim.Native.Nat.{◌-◌, ◌≤◌}
+use Prim.Native.Nat.{◌≤◌}
 use mathlib.Core.Path.{◌≡◌}
 use Rattle.base.specs.Limits.{max_tasks}
 use Rattle.schedule.specs.Runs.{run_at_index}

@@ -1,5 +1,5 @@
 -- `planner::first_exceeding` meets its contract: the walk goes from the innermost job outwards, in nest order.
-use Prim.Native.Nat.{◌+◌, ◌-◌, ◌*◌, ◌≤◌}
+use Prim.Native.Nat.{◌+◌, ◌*◌, ◌≤◌}
 use mathlib.Core.Path.{◌≡◌}
 use mathlib.Core.List.{reverse}
 use Rattle.base.specs.Limits.{max_tasks, max_ticks}

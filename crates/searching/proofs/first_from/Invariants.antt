@@ -1,6 +1,6 @@
 -- `searching::first_from` meets its contract. The loop's invariant: the place looked for is one of the `left` places from `first` on, or the
 -- one behind them. The measure is `left`, of which each step leaves all but its lower half.
-use Prim.Native.Nat.{ℕ, ◌-◌}
+use Prim.Native.Nat.{ℕ}
 use mathlib.Core.Bool.{Bool}
 use mathlib.Core.List.{List}
 use lib.Dec.{leb}

@@ -1,5 +1,4 @@
 -- `sequencing::all_fit` meets its contract: the walk goes in similar order, from the last place downwards.
-use Prim.Native.Nat.{◌-◌}
 use mathlib.Core.Bool.{true}
 use lib.ListN.{get_or}
 use Rattle.schedule.specs.JobArrays.{no_job}

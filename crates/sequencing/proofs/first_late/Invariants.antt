@@ -1,5 +1,4 @@
 -- `sequencing::first_late` meets its contract: the walk goes in similar order, from the last place downwards.
-use Prim.Native.Nat.{◌-◌}
 use mathlib.Core.Bool.{false}
 use lib.ListN.{get_or}
 use Rattle.schedule.specs.JobArrays.{no_job}

@@ -1,5 +1,4 @@
 -- `sequencing::parts_of` meets its contract: the parts are counted from the first job in similar order to the last.
-use Prim.Native.Nat.{◌-◌}
 use lib.ListN.{get_or}
 use Rattle.schedule.specs.JobArrays.{no_job}
 use Rattle.sequence.proofs.KeptRowLaws.{Counted}

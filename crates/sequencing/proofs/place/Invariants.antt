@@ -1,5 +1,4 @@
 -- `sequencing::place` meets its contract: the runs are laid in similar order, from the last place downwards.
-use Prim.Native.Nat.{◌-◌}
 use lib.ListN.{get_or}
 use mathlib.Core.Bool.{false}
 use Rattle.schedule.specs.JobArrays.{no_job}

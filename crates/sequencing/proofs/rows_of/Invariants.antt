@@ -1,5 +1,4 @@
 -- `sequencing::rows_of` meets its contract: the rows are built from the first job in similar order to the last.
-use Prim.Native.Nat.{◌-◌}
 use lib.ListN.{length, get_or}
 use Rattle.schedule.specs.JobArrays.{no_job}
 use Rattle.sequence.proofs.KeptRowLaws.{Built}
