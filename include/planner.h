@@ -1,6 +1,6 @@
 /*
- * The flight planner of radiosonde ground stations: the C interface of the static library that `rt staticlib exports` writes
- * (target/staticlib/libexports.a, x86-64, System V calling convention). The library needs memcpy and memset from the C library, and nothing else.
+ * The flight planner of radiosonde ground stations: the C interface of the static library that `rt lib` writes in crates/exports
+ * (crates/exports/out/libexports.a, x86-64, System V calling convention). The library needs memcpy and memset from the C library, and nothing else.
  *
  * Each call takes bytes and lists of every content and length, does its own checking, and returns. A call that refuses replies a number above 0 and
  * a place, and leaves every lent list as it was. Parts of a reply that are not named are 0. A lent list beyond what was written keeps its content.
