@@ -1,4 +1,4 @@
-// Links the proved static library, which `rt staticlib exports` writes. For compare/before it links copies of two libraries, this tree's and an
+// Links the proved static library, which `rt lib` writes in crates/exports. For compare/before it links copies of two libraries, this tree's and an
 // earlier commit's, which that command makes.
 use std::env;
 use std::path::Path;
@@ -24,7 +24,7 @@ fn main() {
             link(Path::new(&folder), name, "run compare/before, which makes it and names its folder in PLANNER_LIBRARIES");
         }
     } else {
-        let folder = Path::new(env!("CARGO_MANIFEST_DIR")).join("../target/staticlib");
-        link(&folder, "exports", "run `rt staticlib exports` in the repository first");
+        let folder = Path::new(env!("CARGO_MANIFEST_DIR")).join("../crates/exports/out");
+        link(&folder, "exports", "run `rt lib` in crates/exports first");
     }
 }

@@ -1,6 +1,6 @@
 /*
- * The flight planner of radiosonde ground stations: the C interface of the static library that `rt staticlib exports` writes
- * (target/staticlib/libexports.a, x86-64, System V calling convention). The library needs memcpy and memset from the C library, and nothing else.
+ * The flight planner of radiosonde ground stations: the C interface of the static library that `rt lib` writes in crates/exports
+ * (crates/exports/out/libexports.a, x86-64, System V calling convention). The library needs memcpy and memset from the C library, and nothing else.
  *
  * Each call takes bytes and lists of every content and length, does its own checking, and returns. A call that refuses replies a number above 0 and
  * a place, and leaves every lent list as it was. Parts of a reply that are not named are 0. A lent list beyond what was written keeps its content.
@@ -10,7 +10,8 @@
  * - A list that is lent for writing (no const) overlaps no other list of the same call. Lists that are only read may overlap or be the same.
  *
  * No call uses a heap, keeps anything between calls, or writes anything but the lists that it was lent and its reply. Calls on different lists may
- * run at the same time on different threads. A call needs less than 32 KB of stack, and one that takes a run list, which it copies, less than 128 KB.
+ * run at the same time on different threads. A call needs less than 32 KB of stack, and one that takes a run list, which it copies, less than 128 KB
+ * (by what was measured of the library as an older toolchain built it).
  *
  * Ticks are milliseconds. A frame lasts p/q ticks. Planning and judging take a launch tick, 0 to 86399999 (a day's last tick), where frame 0 begins:
  * it is added to every tick of the frame clock. The data of a frame are complete when it ends: a window holds the ticks from launch plus the least tick

@@ -1,6 +1,6 @@
 # What the scripts share that run a program on numbers and a table file. A script sets `root`, the repository, and `name`, the program's name,
 # and then reads this file.
-program=$root/target/bin/$name
+program=$root/crates/$name/out/$name
 
 # One line on standard error, and status 2.
 fail() {
@@ -8,18 +8,25 @@ fail() {
     exit 2
 }
 
-# The program is missing, or a source is newer than it.
-stale() {
-    [ ! -x "$program" ] || [ -n "$(find "$root/crates" "$root/crates.txt" -newer "$program" -type f | head -n 1)" ]
+# Prints the first file that is newer than the program, of all that stands in crates/ and crates.txt but what rt makes, in the out/ of each crate.
+newer() {
+    (cd "$root" && find crates crates.txt -path 'crates/*/out' ! -path 'crates/*/*/out' -prune -o \
+        -newer "crates/$name/out/$name" -type f -print | head -n 1)
 }
 
-# Proves and builds the program at the first use, and again where its sources have changed.
+# The program is missing, or a source is newer than it.
+stale() {
+    [ ! -x "$program" ] || [ -n "$(newer)" ]
+}
+
+# Proves and builds the program at the first use, and again where its sources have changed. `rt run` runs it too, here on no input, and so ends with
+# status 0 only where it was built: a program has that status on every input.
 build() {
     stale || return 0
     command -v rt >/dev/null || fail "the toolchain's command rt is not on the PATH"
     echo "$name: proving and building the program (some minutes, at the first use)" >&2
-    (cd "$root" && rt check "$name") >&2 || fail "the program was not built"
-    touch "$program"
+    (cd "$root/crates/$name" && rt run </dev/null >/dev/null) || fail "the program was not built"
+    touch -c "$program"
 }
 
 # The file is there and can be read.
