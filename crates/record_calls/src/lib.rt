@@ -1,5 +1,5 @@
 // For the test programs: the entry points over run records, called with runs that stand in an array. The array's first runs are lent to them as a list
-// of records. A function that lends is proved by hand, step by step; whoever calls it has the array by value.
+// of records. Whoever calls them has the array by value.
 #![tactic(auto)]
 
 ghost use Rattle.std.specs.Prelude.{◌≡◌, ◌≤◌, take};

@@ -1,5 +1,5 @@
-// Run records, as a caller lends them: one list of runs. They are copied once into columns of numbers, and all work is done over columns. A function that
-// has a list of records in its hands is proved by hand, step by step, so there are few of them and they are thin.
+// Run records, as a caller lends them: one list of runs. They are copied once into columns of numbers, and all work is done over columns. The functions that
+// have a list of records in their hands are few and thin.
 #![tactic(auto)]
 
 ghost use Rattle.std.specs.Prelude.{◌≡◌, ◌-◌, ◌<◌, ◌≤◌, min, length, get_or, take, drop};
