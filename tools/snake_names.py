@@ -13,8 +13,10 @@ import os
 import re
 import sys
 
-# Names that would fall together with a crate, a field or a lemma. The lemmas are those that the port script had put in snake case already.
+# Names that would fall together with a crate, a field or a lemma. The lemmas are those that the port script had put in snake case already. `most-within` is a
+# field, and may have a function's name.
 CHOSEN = {
+    "most-within": "most_within",
     "tableText": "text_of_table",
     "weightedFile": "file_of_weighted",
     "startsFrom": "starts_from_tick",
@@ -93,7 +95,7 @@ def mapping(root):
     for n in sorted(own):
         to = respelled(n)
         if to != n:
-            names[n] = to + "_lem" if "-" in n and to in taken else to
+            names[n] = to + "_lem" if "-" in n and to in taken and n not in CHOSEN else to
     return names
 
 

@@ -5,7 +5,6 @@
 #![tactic(auto)]
 
 use cases::{STDIN, STDOUT};
-use std::fs;
 use std::fs::File;
 use std::os::fd::AsRawFd;
 

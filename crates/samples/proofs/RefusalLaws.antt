@@ -37,19 +37,19 @@ use Rattle.samples.specs.Refusals.{
   Call,
   reads,
   writes,
-  writesOver,
+  writes_over,
   moves,
-  movesOver,
+  moves_over,
   plans,
   judges,
-  busyCounts,
+  busy_counts,
   checks,
-  asksAt,
-  asksFrom,
-  asksTouching,
-  printsPlan,
-  printsNow,
-  printsOver,
+  asks_at,
+  asks_from,
+  asks_touching,
+  prints_plan,
+  prints_now,
+  prints_over,
   limits,
   CallSays,
   tick_runs,
@@ -72,25 +72,25 @@ call_says (reads file number place t) e =
     let answer = (read_reply file).answer in
     three (eqb (number_of answer) number) (eqb (place_of answer) place) (tables_equal (read_reply file).table t) (eqb-true _ _) (eqb-true _ _) (table_same _ _) e
 call_says (writes t room reply) e = written_same _ _ e
-call_says (writesOver t out after) e = numbers_same _ _ e
+call_says (writes_over t out after) e = numbers_same _ _ e
 call_says (moves file shift room reply) e = written_same _ _ e
-call_says (movesOver file shift out after) e = numbers_same _ _ e
+call_says (moves_over file shift out after) e = numbers_same _ _ e
 call_says (plans file launch lists reply after) e =
     both (numbers_equal (plan_parts (plan_reply launch (plain_read file) lists)) (plan_parts reply)) (lists_equal (lists_left launch (plain_read file) reply lists) after)
     (planned_same _ _) (lists_same _ _) e
 call_says (judges file launch marks runs reply) e = judged_same _ _ e
-call_says (busyCounts runs a b reply) e = busy_same _ _ e
+call_says (busy_counts runs a b reply) e = busy_same _ _ e
 call_says (checks runs number place) e =
     let answer = check_answer runs in
     both (eqb (runs_number answer) number) (eqb (runs_place answer) place) (eqb-true _ _) (eqb-true _ _) e
-call_says (asksAt runs tick numbers) e = numbers_same _ _ e
-call_says (asksFrom runs tick numbers) e = numbers_same _ _ e
-call_says (asksTouching runs a b first part) e =
+call_says (asks_at runs tick numbers) e = numbers_same _ _ e
+call_says (asks_from runs tick numbers) e = numbers_same _ _ e
+call_says (asks_touching runs a b first part) e =
     let at = stretch_of runs a b in
     three (runs_equal (touching runs a b) part) (eqb at.first first) (eqb at.runs (length part)) (runs_same _ _) (eqb-true _ _) (eqb-true _ _) e
-call_says (printsPlan input text) e = numbers_same _ _ e
-call_says (printsNow input text) e = numbers_same _ _ e
-call_says (printsOver text out bytes after) e =
+call_says (prints_plan input text) e = numbers_same _ _ e
+call_says (prints_now input text) e = numbers_same _ _ e
+call_says (prints_over text out bytes after) e =
     let printed = printed_within (length out) text in
     let z = both (eqb bytes (length printed)) (numbers_equal after (written_front printed out)) (eqb-true _ _) (numbers_same _ _) e in
     record { bytes_are = z.0; content = z.1 }
@@ -136,7 +136,7 @@ ticks_sum a b from zero l h = refl
 ticks_sum a b from (suc n) l h = omega (arith, ticks_sum a b (suc from) n (omega arith) (omega arith))
 
 -- and so they are counted
-ticks_counted : (n : ℕ) → n ≤ max_runs → CallSays (busyCounts (tick_runs 0 n) 0 n (counted_ticks n))
+ticks_counted : (n : ℕ) → n ≤ max_runs → CallSays (busy_counts (tick_runs 0 n) 0 n (counted_ticks n))
 unfolding busy_reply
 ticks_counted n h = rw (ticks_accepted n h, ticks_sum 0 n 0 n (omega arith) (omega arith))
 

@@ -9,7 +9,7 @@ use Rattle.table.specs.Answers.{number_of, place_of}
 use Rattle.weighted_file.specs.Weights.{weighted_read_reply, weighted_read}
 use Rattle.plans.specs.Planning.{plan_reply, lists_left}
 use Rattle.samples.specs.SampleTests.{numbers_equal, tables_equal, lists_equal, plan_parts}
-use Rattle.samples.specs.WeightedSamples.{WeightedCall, files, reads, writes, writesOver, plans, judges, limits, WeightedSays, weighted_rows}
+use Rattle.samples.specs.WeightedSamples.{WeightedCall, files, reads, writes, writes_over, plans, judges, limits, WeightedSays, weighted_rows}
 use Rattle.samples.specs.WeightedTests.{weighted_met}
 use Rattle.samples.proofs.SameLaws.{pass_all, both, three, numbers_same, table_same, lists_same, planned_same, written_same, judged_same}
 use Rattle.samples.proofs.WeightedComputed.{weighted_pass}
@@ -25,7 +25,7 @@ weighted_says (reads file number place w) e =
     let tables = both (tables_equal reply.weighted.table w.table) (numbers_equal reply.weighted.weights w.weights) (table_same _ _) (numbers_same _ _) parts.2 in
     (parts.0, parts.1, tables.0, tables.1)
 weighted_says (writes w room reply) e = written_same _ _ e
-weighted_says (writesOver w out after) e = numbers_same _ _ e
+weighted_says (writes_over w out after) e = numbers_same _ _ e
 weighted_says (plans file launch lists reply after) e =
     both (numbers_equal (plan_parts (plan_reply launch (weighted_read file) lists)) (plan_parts reply))
     (lists_equal (lists_left launch (weighted_read file) reply lists) after) (planned_same _ _) (lists_same _ _) e

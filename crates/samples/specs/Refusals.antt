@@ -47,29 +47,29 @@ pub data Call : Type 0 where
   -- writing a table into a list of so many bytes
   writes : Table → ℕ → Written → Call
   -- writing a table: what a lent list holds before, and then
-  writesOver : Table → List ℕ → List ℕ → Call
+  writes_over : Table → List ℕ → List ℕ → Call
   -- moving a file by a number of frames into a list of so many bytes
   moves : List ℕ → ℤ → ℕ → Written → Call
   -- moving a file: what a lent list holds before, and then
-  movesOver : List ℕ → ℤ → List ℕ → List ℕ → Call
+  moves_over : List ℕ → ℤ → List ℕ → List ℕ → Call
   -- planning a file at a launch tick into lent lists: the reply, and what the lists hold then
   plans : List ℕ → ℕ → LentLists → Planned → LentLists → Call
   -- judging a file at a launch tick, a keep list and a run list
   judges : List ℕ → ℕ → List ℕ → List Run → Judged → Call
   -- the busy count of a run list, from one tick to another
-  busyCounts : List Run → ℕ → ℕ → Busy → Call
+  busy_counts : List Run → ℕ → ℕ → Busy → Call
   -- the check of a run list: the number and the place of the answer
   checks : List Run → ℕ → ℕ → Call
   -- the run at a tick, and the first run that starts at a tick or after it: the numbers of the answer
-  asksAt : List Run → ℕ → List ℕ → Call
-  asksFrom : List Run → ℕ → List ℕ → Call
+  asks_at : List Run → ℕ → List ℕ → Call
+  asks_from : List Run → ℕ → List ℕ → Call
   -- the runs that share a tick with the interval from one tick to another: the index of the first, and the runs
-  asksTouching : List Run → ℕ → ℕ → ℕ → List Run → Call
+  asks_touching : List Run → ℕ → ℕ → ℕ → List Run → Call
   -- printing what an input of the program `plan` gets: the bytes of the text; and the same of the program `now`
-  printsPlan : List ℕ → List ℕ → Call
-  printsNow : List ℕ → List ℕ → Call
+  prints_plan : List ℕ → List ℕ → Call
+  prints_now : List ℕ → List ℕ → Call
   -- printing a text: what a lent list holds before, how many bytes are printed, and what the list holds then
-  printsOver : List ℕ → List ℕ → ℕ → List ℕ → Call
+  prints_over : List ℕ → List ℕ → ℕ → List ℕ → Call
   -- a limit that contracts name, and its number
   limits : ℕ → ℕ → Call
 
@@ -89,20 +89,20 @@ abbrev pub CallSays : Call → Type 0
 CallSays (reads file number place t) =
     (number_of (read_reply file).answer ≡ number) × (place_of (read_reply file).answer ≡ place) × ((read_reply file).table ≡ t)
 CallSays (writes t room reply) = write_reply t room ≡ reply
-CallSays (writesOver t out after) = written_over t out ≡ after
+CallSays (writes_over t out after) = written_over t out ≡ after
 CallSays (moves file shift room reply) = move_reply file shift room ≡ reply
-CallSays (movesOver file shift out after) = moved_over file shift out ≡ after
+CallSays (moves_over file shift out after) = moved_over file shift out ≡ after
 CallSays (plans file launch lists reply after) = (plan_reply launch (plain_read file) lists ≡ reply) × (lists_left launch (plain_read file) reply lists ≡ after)
 CallSays (judges file launch marks runs reply) = judge_reply launch (plain_read file) marks runs ≡ reply
-CallSays (busyCounts runs a b reply) = busy_reply runs a b ≡ reply
+CallSays (busy_counts runs a b reply) = busy_reply runs a b ≡ reply
 CallSays (checks runs number place) = (runs_number (check_answer runs) ≡ number) × (runs_place (check_answer runs) ≡ place)
-CallSays (asksAt runs tick numbers) = found_parts (run_at_tick runs tick) ≡ numbers
-CallSays (asksFrom runs tick numbers) = found_parts (run_from_tick runs tick) ≡ numbers
-CallSays (asksTouching runs a b first part) =
+CallSays (asks_at runs tick numbers) = found_parts (run_at_tick runs tick) ≡ numbers
+CallSays (asks_from runs tick numbers) = found_parts (run_from_tick runs tick) ≡ numbers
+CallSays (asks_touching runs a b first part) =
     (touching runs a b ≡ part) × ((stretch_of runs a b).first ≡ first) × ((stretch_of runs a b).runs ≡ length part)
-CallSays (printsPlan input text) = plan_output input ≡ text
-CallSays (printsNow input text) = now_output input ≡ text
-CallSays (printsOver text out bytes after) = PrintsWithin text out bytes after
+CallSays (prints_plan input text) = plan_output input ≡ text
+CallSays (prints_now input text) = now_output input ≡ text
+CallSays (prints_over text out bytes after) = PrintsWithin text out bytes after
 CallSays (limits limit number) = limit ≡ number
 
 -- a file that reading refuses: the table is 0 throughout
@@ -298,9 +298,9 @@ writing_rows =
     -- places beyond the count are disregarded
     ∷ writes beyond_table 12 (bytes_written 12)
     -- what the list holds then: the file, and what stood beyond it; what it held on a refusal, 12 and 9
-    ∷ writesOver beyond_table (replicate 14 255) (p4_file ++ 255 ∷ 255 ∷ [])
-    ∷ writesOver (table 1 1 (task 0 131_072 0 0 ∷ [])) (replicate 14 255) (replicate 14 255)
-    ∷ writesOver beyond_table (replicate 11 255) (replicate 11 255)
+    ∷ writes_over beyond_table (replicate 14 255) (p4_file ++ 255 ∷ 255 ∷ [])
+    ∷ writes_over (table 1 1 (task 0 131_072 0 0 ∷ [])) (replicate 14 255) (replicate 14 255)
+    ∷ writes_over beyond_table (replicate 11 255) (replicate 11 255)
     ∷ []
 
 -- Moving: reading, 10, 9. Here `negsuc k` is −(k + 1).
@@ -325,20 +325,20 @@ moving_rows =
     ∷ moves similar_file (pos 1) 28 (bytes_written 28)
     ∷ moves p8_file (pos 0) 28 (bytes_written 28)
     -- what the list holds then: the file of the moved table, both frames of each task one more, and what stood beyond it
-    ∷ movesOver p8_file (pos 1) (replicate 30 255)
+    ∷ moves_over p8_file (pos 1) (replicate 30 255)
     (0x06 ∷ 0x00 ∷ 0x20 ∷ 0x02 ∷ 0x00 ∷ 0x01 ∷ 0x00 ∷ 0x05 ∷ 0x80 ∷ 0x04 ∷ 0x00 ∷ 0x18 ∷ 0x00 ∷ 0x0C ∷ 0x00 ∷ 0x12 ∷ 0x00 ∷ 0x08 ∷ 0x00 ∷ 0x60 ∷ 0x00 ∷ 0x50
     ∷ 0x00 ∷ 0x38 ∷ 0x00 ∷ 0x20 ∷ 0x00 ∷ 0x80 ∷ 255 ∷ 255 ∷ [])
     -- p and q stay as they are
-    ∷ movesOver p4_file (pos 1) (replicate 12 255) (0x02 ∷ 0x0C ∷ 0x80 ∷ 0x02 ∷ 0x00 ∷ 0x01 ∷ 0x00 ∷ 0x01 ∷ 0x80 ∷ 0xC8 ∷ 0x01 ∷ 0x90 ∷ [])
+    ∷ moves_over p4_file (pos 1) (replicate 12 255) (0x02 ∷ 0x0C ∷ 0x80 ∷ 0x02 ∷ 0x00 ∷ 0x01 ∷ 0x00 ∷ 0x01 ∷ 0x80 ∷ 0xC8 ∷ 0x01 ∷ 0x90 ∷ [])
     -- down to frame 0, and up to frame 131,071
-    ∷ movesOver two_tasks (negsuc 0) (replicate 20 255)
+    ∷ moves_over two_tasks (negsuc 0) (replicate 20 255)
     (0x04 ∷ 0x00 ∷ 0x20 ∷ 0x02 ∷ 0x00 ∷ 0x01 ∷ 0x00 ∷ 0x03 ∷ 0x80 ∷ 0x00 ∷ 0x00 ∷ 0x00 ∷ 0x00 ∷ 0x00 ∷ 0x00 ∷ 0x10 ∷ 0x00 ∷ 0x00 ∷ 0x00 ∷ 0x00 ∷ [])
-    ∷ movesOver two_tasks (pos 131_062) (replicate 20 255)
+    ∷ moves_over two_tasks (pos 131_062) (replicate 20 255)
     (0x04 ∷ 0x00 ∷ 0x20 ∷ 0x03 ∷ 0xFF ∷ 0xF8 ∷ 0xFF ∷ 0xFF ∷ 0x00 ∷ 0x00 ∷ 0x00 ∷ 0x07 ∷ 0xFF ∷ 0xDF ∷ 0xFF ∷ 0xFE ∷ 0x00 ∷ 0x00 ∷ 0x00 ∷ 0x00 ∷ [])
     -- what it held on a refusal: reading's, 10, 9
-    ∷ movesOver long_file (pos 0) (replicate 14 255) (replicate 14 255)
-    ∷ movesOver two_tasks (negsuc 1) (replicate 20 255) (replicate 20 255)
-    ∷ movesOver p8_file (pos 1) (replicate 27 255) (replicate 27 255)
+    ∷ moves_over long_file (pos 0) (replicate 14 255) (replicate 14 255)
+    ∷ moves_over two_tasks (negsuc 1) (replicate 20 255) (replicate 20 255)
+    ∷ moves_over p8_file (pos 1) (replicate 27 255) (replicate 27 255)
     ∷ []
 
 -- Planning: reading, 8, 9; the launch tick is 0 but where it is said. Two tasks need 2 marks and 3 runs, three tasks 3 marks and 5 runs.
@@ -375,8 +375,8 @@ planning_rows =
     (lists_of (1 ∷ 0 ∷ 0 ∷ []) (13 ∷ 15 ∷ 16 ∷ 17 ∷ 18 ∷ []) (15 ∷ 16 ∷ 17 ∷ 18 ∷ 20 ∷ []) (0 ∷ 2 ∷ 0 ∷ 1 ∷ 0 ∷ []))
     ∷ plans empty_file 0 (lists 2 1 2 3) (plan_with 0 1 0) (lists_of (0 ∷ 9 ∷ []) (90 ∷ []) (91 ∷ 91 ∷ []) (92 ∷ 92 ∷ 92 ∷ []))
     -- the line printed of a refusal
-    ∷ printsPlan (at_zero outermost_exceeds) (text_of ("REFUSED 8 1" ∷ []))
-    ∷ printsPlan (at_zero long_file) (text_of ("REFUSED 3 12" ∷ []))
+    ∷ prints_plan (at_zero outermost_exceeds) (text_of ("REFUSED 8 1" ∷ []))
+    ∷ prints_plan (at_zero long_file) (text_of ("REFUSED 3 12" ∷ []))
     ∷ []
 
 -- Judging with launch 0: reading, 11, 13; in 11 the length goes first.
@@ -467,42 +467,42 @@ launch_rows =
     ∷ judges tie_file 0 (0 ∷ 1 ∷ []) (run 86_400_000 86_400_001 0 ∷ run 86_400_001 86_400_005 1 ∷ []) judged_no
     ∷ judges tie_file 86_399_999 (0 ∷ 1 ∷ []) (run 1 2 0 ∷ run 2 6 1 ∷ []) judged_no
     -- the program's input: fewer than 4 bytes get 1 with the input's length; from 4 bytes on 1 has the length of the file that follows them
-    ∷ printsPlan [] (text_of ("REFUSED 1 0" ∷ []))
-    ∷ printsPlan (0x05 ∷ 0x26 ∷ 0x5C ∷ []) (text_of ("REFUSED 1 3" ∷ []))
-    ∷ printsPlan (at_zero []) (text_of ("REFUSED 1 0" ∷ []))
-    ∷ printsPlan (at_zero (take 11 p4_file)) (text_of ("REFUSED 1 11" ∷ []))
+    ∷ prints_plan [] (text_of ("REFUSED 1 0" ∷ []))
+    ∷ prints_plan (0x05 ∷ 0x26 ∷ 0x5C ∷ []) (text_of ("REFUSED 1 3" ∷ []))
+    ∷ prints_plan (at_zero []) (text_of ("REFUSED 1 0" ∷ []))
+    ∷ prints_plan (at_zero (take 11 p4_file)) (text_of ("REFUSED 1 11" ∷ []))
     -- high byte first: 05 26 5C 00 is 86,400,000, 05 26 5B FF is 86,399,999, and 00 5C 26 05 is 6,039,045
-    ∷ printsPlan (0x05 ∷ 0x26 ∷ 0x5C ∷ 0x00 ∷ outermost_exceeds) (text_of ("REFUSED 14 0" ∷ []))
-    ∷ printsPlan (0x05 ∷ 0x26 ∷ 0x5B ∷ 0xFF ∷ outermost_exceeds) (text_of ("REFUSED 8 1" ∷ []))
-    ∷ printsPlan (0x00 ∷ 0x5C ∷ 0x26 ∷ 0x05 ∷ outermost_exceeds) (text_of ("REFUSED 8 1" ∷ []))
+    ∷ prints_plan (0x05 ∷ 0x26 ∷ 0x5C ∷ 0x00 ∷ outermost_exceeds) (text_of ("REFUSED 14 0" ∷ []))
+    ∷ prints_plan (0x05 ∷ 0x26 ∷ 0x5B ∷ 0xFF ∷ outermost_exceeds) (text_of ("REFUSED 8 1" ∷ []))
+    ∷ prints_plan (0x00 ∷ 0x5C ∷ 0x26 ∷ 0x05 ∷ outermost_exceeds) (text_of ("REFUSED 8 1" ∷ []))
     ∷ []
 
 -- Busy count: 13, then 15.
 abbrev pub busy_rows : List Call
 busy_rows =
     -- 13: 4,097 runs, also where 15 has its cause, and whatever the interval
-    busyCounts (replicate 4_097 (run 0 1 0)) 0 9 (not_counted 13 0)
-    ∷ busyCounts (replicate 4_097 empty_run) 9 0 (not_counted 13 0)
+    busy_counts (replicate 4_097 (run 0 1 0)) 0 9 (not_counted 13 0)
+    ∷ busy_counts (replicate 4_097 empty_run) 9 0 (not_counted 13 0)
     -- 15, the index of the first run that is out of order: one without a tick, one that is reversed, one that starts before the previous end
-    ∷ busyCounts (run 2 2 0 ∷ run 6 4 0 ∷ run 3 7 1 ∷ run 6 8 0 ∷ []) 0 9 (not_counted 15 0)
-    ∷ busyCounts (run 0 1 0 ∷ run 4 3 0 ∷ []) 0 9 (not_counted 15 1)
-    ∷ busyCounts (run 0 1 0 ∷ run 1 3 0 ∷ run 2 4 1 ∷ run 4 4 0 ∷ []) 0 9 (not_counted 15 2)
+    ∷ busy_counts (run 2 2 0 ∷ run 6 4 0 ∷ run 3 7 1 ∷ run 6 8 0 ∷ []) 0 9 (not_counted 15 0)
+    ∷ busy_counts (run 0 1 0 ∷ run 4 3 0 ∷ []) 0 9 (not_counted 15 1)
+    ∷ busy_counts (run 0 1 0 ∷ run 1 3 0 ∷ run 2 4 1 ∷ run 4 4 0 ∷ []) 0 9 (not_counted 15 2)
     -- two runs of all ticks of the interval, whose sum would be twice its length
-    ∷ busyCounts (run 0 10 0 ∷ run 0 10 1 ∷ []) 5 10 (not_counted 15 1)
+    ∷ busy_counts (run 0 10 0 ∷ run 0 10 1 ∷ []) 5 10 (not_counted 15 1)
     -- later runs first
-    ∷ busyCounts (run 8 10 0 ∷ run 5 6 0 ∷ run 2 4 0 ∷ []) 3 9 (not_counted 15 1)
+    ∷ busy_counts (run 8 10 0 ∷ run 5 6 0 ∷ run 2 4 0 ∷ []) 3 9 (not_counted 15 1)
     -- before a and b are looked at: where a is not below b, and where the interval shares no tick with any run
-    ∷ busyCounts (run 3 5 0 ∷ run 4 6 1 ∷ []) 5 5 (not_counted 15 1)
-    ∷ busyCounts (run 3 5 0 ∷ run 4 6 1 ∷ []) 9 0 (not_counted 15 1)
-    ∷ busyCounts (run 3 5 0 ∷ run 4 6 1 ∷ []) 7 9 (not_counted 15 1)
+    ∷ busy_counts (run 3 5 0 ∷ run 4 6 1 ∷ []) 5 5 (not_counted 15 1)
+    ∷ busy_counts (run 3 5 0 ∷ run 4 6 1 ∷ []) 9 0 (not_counted 15 1)
+    ∷ busy_counts (run 3 5 0 ∷ run 4 6 1 ∷ []) 7 9 (not_counted 15 1)
     -- lists that are accepted: all ticks of touching runs, the length of an interval within them, one tick on each side of a gap, and no run
-    ∷ busyCounts (run 3 5 0 ∷ run 5 6 2 ∷ run 6 9 0 ∷ []) 0 20 (counted_ticks 6)
-    ∷ busyCounts (run 3 5 0 ∷ run 5 6 2 ∷ run 6 9 0 ∷ []) 4 8 (counted_ticks 4)
-    ∷ busyCounts (run 3 5 0 ∷ run 8 10 4_294_967_295 ∷ []) 4 9 (counted_ticks 2)
-    ∷ busyCounts [] 0 9 (counted_ticks 0)
+    ∷ busy_counts (run 3 5 0 ∷ run 5 6 2 ∷ run 6 9 0 ∷ []) 0 20 (counted_ticks 6)
+    ∷ busy_counts (run 3 5 0 ∷ run 5 6 2 ∷ run 6 9 0 ∷ []) 4 8 (counted_ticks 4)
+    ∷ busy_counts (run 3 5 0 ∷ run 8 10 4_294_967_295 ∷ []) 4 9 (counted_ticks 2)
+    ∷ busy_counts [] 0 9 (counted_ticks 0)
     -- an interval without a tick
-    ∷ busyCounts (run 3 7 1 ∷ []) 5 5 (counted_ticks 0)
-    ∷ busyCounts (run 3 7 1 ∷ []) 9 0 (counted_ticks 0)
+    ∷ busy_counts (run 3 7 1 ∷ []) 5 5 (counted_ticks 0)
+    ∷ busy_counts (run 3 7 1 ∷ []) 9 0 (counted_ticks 0)
     ∷ []
 
 -- The run list that the queries below are about: the second run begins where the first ends, and then two ticks are free.
@@ -522,54 +522,54 @@ query_rows =
     ∷ checks (run 0 1 0 ∷ run 1 3 0 ∷ run 3 4 4_294_967_295 ∷ []) 0 0
     ∷ checks [] 0 0
     -- the run at a tick: none before the first, at its start, at its last tick; at its end the next run has the tick; none in a gap and none after the last
-    ∷ asksAt asked_runs 2 (0 ∷ 0 ∷ 0 ∷ 0 ∷ 0 ∷ 0 ∷ [])
-    ∷ asksAt asked_runs 3 (0 ∷ 0 ∷ 1 ∷ 3 ∷ 5 ∷ 0 ∷ [])
-    ∷ asksAt asked_runs 4 (0 ∷ 0 ∷ 1 ∷ 3 ∷ 5 ∷ 0 ∷ [])
-    ∷ asksAt asked_runs 5 (0 ∷ 0 ∷ 1 ∷ 5 ∷ 6 ∷ 2 ∷ [])
-    ∷ asksAt asked_runs 6 (0 ∷ 0 ∷ 0 ∷ 0 ∷ 0 ∷ 0 ∷ [])
-    ∷ asksAt asked_runs 10 (0 ∷ 0 ∷ 0 ∷ 0 ∷ 0 ∷ 0 ∷ [])
+    ∷ asks_at asked_runs 2 (0 ∷ 0 ∷ 0 ∷ 0 ∷ 0 ∷ 0 ∷ [])
+    ∷ asks_at asked_runs 3 (0 ∷ 0 ∷ 1 ∷ 3 ∷ 5 ∷ 0 ∷ [])
+    ∷ asks_at asked_runs 4 (0 ∷ 0 ∷ 1 ∷ 3 ∷ 5 ∷ 0 ∷ [])
+    ∷ asks_at asked_runs 5 (0 ∷ 0 ∷ 1 ∷ 5 ∷ 6 ∷ 2 ∷ [])
+    ∷ asks_at asked_runs 6 (0 ∷ 0 ∷ 0 ∷ 0 ∷ 0 ∷ 0 ∷ [])
+    ∷ asks_at asked_runs 10 (0 ∷ 0 ∷ 0 ∷ 0 ∷ 0 ∷ 0 ∷ [])
     -- refusals, with no run
-    ∷ asksAt (run 3 5 0 ∷ run 4 6 1 ∷ []) 3 (15 ∷ 1 ∷ 0 ∷ 0 ∷ 0 ∷ 0 ∷ [])
-    ∷ asksAt (replicate 4_097 empty_run) 3 (13 ∷ 0 ∷ 0 ∷ 0 ∷ 0 ∷ 0 ∷ [])
+    ∷ asks_at (run 3 5 0 ∷ run 4 6 1 ∷ []) 3 (15 ∷ 1 ∷ 0 ∷ 0 ∷ 0 ∷ 0 ∷ [])
+    ∷ asks_at (replicate 4_097 empty_run) 3 (13 ∷ 0 ∷ 0 ∷ 0 ∷ 0 ∷ 0 ∷ [])
     -- the first run that starts at a tick or after it
-    ∷ asksFrom asked_runs 0 (0 ∷ 0 ∷ 1 ∷ 3 ∷ 5 ∷ 0 ∷ [])
-    ∷ asksFrom asked_runs 3 (0 ∷ 0 ∷ 1 ∷ 3 ∷ 5 ∷ 0 ∷ [])
-    ∷ asksFrom asked_runs 4 (0 ∷ 0 ∷ 1 ∷ 5 ∷ 6 ∷ 2 ∷ [])
-    ∷ asksFrom asked_runs 8 (0 ∷ 0 ∷ 1 ∷ 8 ∷ 10 ∷ 1 ∷ [])
-    ∷ asksFrom asked_runs 9 (0 ∷ 0 ∷ 0 ∷ 0 ∷ 0 ∷ 0 ∷ [])
-    ∷ asksFrom (run 3 5 0 ∷ run 4 6 1 ∷ []) 0 (15 ∷ 1 ∷ 0 ∷ 0 ∷ 0 ∷ 0 ∷ [])
-    ∷ asksFrom (replicate 4_097 empty_run) 0 (13 ∷ 0 ∷ 0 ∷ 0 ∷ 0 ∷ 0 ∷ [])
+    ∷ asks_from asked_runs 0 (0 ∷ 0 ∷ 1 ∷ 3 ∷ 5 ∷ 0 ∷ [])
+    ∷ asks_from asked_runs 3 (0 ∷ 0 ∷ 1 ∷ 3 ∷ 5 ∷ 0 ∷ [])
+    ∷ asks_from asked_runs 4 (0 ∷ 0 ∷ 1 ∷ 5 ∷ 6 ∷ 2 ∷ [])
+    ∷ asks_from asked_runs 8 (0 ∷ 0 ∷ 1 ∷ 8 ∷ 10 ∷ 1 ∷ [])
+    ∷ asks_from asked_runs 9 (0 ∷ 0 ∷ 0 ∷ 0 ∷ 0 ∷ 0 ∷ [])
+    ∷ asks_from (run 3 5 0 ∷ run 4 6 1 ∷ []) 0 (15 ∷ 1 ∷ 0 ∷ 0 ∷ 0 ∷ 0 ∷ [])
+    ∷ asks_from (replicate 4_097 empty_run) 0 (13 ∷ 0 ∷ 0 ∷ 0 ∷ 0 ∷ 0 ∷ [])
     -- the runs that share a tick with an interval: all of them, one by its last tick, one by its first, none where they touch at an end alone, none in a gap
-    ∷ asksTouching asked_runs 0 100 0 asked_runs
-    ∷ asksTouching asked_runs 4 5 0 (run 3 5 0 ∷ [])
-    ∷ asksTouching asked_runs 4 6 0 (run 3 5 0 ∷ run 5 6 2 ∷ [])
-    ∷ asksTouching asked_runs 5 9 1 (run 5 6 2 ∷ run 8 10 1 ∷ [])
-    ∷ asksTouching asked_runs 0 3 0 []
-    ∷ asksTouching asked_runs 10 12 0 []
-    ∷ asksTouching asked_runs 6 8 0 []
+    ∷ asks_touching asked_runs 0 100 0 asked_runs
+    ∷ asks_touching asked_runs 4 5 0 (run 3 5 0 ∷ [])
+    ∷ asks_touching asked_runs 4 6 0 (run 3 5 0 ∷ run 5 6 2 ∷ [])
+    ∷ asks_touching asked_runs 5 9 1 (run 5 6 2 ∷ run 8 10 1 ∷ [])
+    ∷ asks_touching asked_runs 0 3 0 []
+    ∷ asks_touching asked_runs 10 12 0 []
+    ∷ asks_touching asked_runs 6 8 0 []
     -- empty where a is not below b, and on a refusal
-    ∷ asksTouching asked_runs 4 4 0 []
-    ∷ asksTouching asked_runs 9 3 0 []
-    ∷ asksTouching (run 3 5 0 ∷ run 4 6 1 ∷ []) 0 9 0 []
-    ∷ asksTouching (replicate 4_097 empty_run) 0 9 0 []
+    ∷ asks_touching asked_runs 4 4 0 []
+    ∷ asks_touching asked_runs 9 3 0 []
+    ∷ asks_touching (run 3 5 0 ∷ run 4 6 1 ∷ []) 0 9 0 []
+    ∷ asks_touching (replicate 4_097 empty_run) 0 9 0 []
     ∷ []
 
 -- What is printed for a tick of P8's plan: the run that holds it, the next one, and the runs of the ticks from it on.
 abbrev pub now_rows : List Call
 now_rows =
     -- an input of fewer than 12 bytes gets 1 with its length; then 1 has the length of the file that follows them
-    printsNow (replicate 11 0) (text_of ("REFUSED 1 11" ∷ []))
-    ∷ printsNow (replicate 12 0) (text_of ("REFUSED 1 0" ∷ []))
+    prints_now (replicate 11 0) (text_of ("REFUSED 1 11" ∷ []))
+    ∷ prints_now (replicate 12 0) (text_of ("REFUSED 1 0" ∷ []))
     -- launch 0, tick 4 and the 4 ticks from it on
-    ∷ printsNow (now_input 0 4 4 p8_file)
+    ∷ prints_now (now_input 0 4 4 p8_file)
     (text_of ("NOW 3 5 0" ∷ "NEXT 5 6 2" ∷ "RUN 3 5 0" ∷ "RUN 5 6 2" ∷ "RUN 6 7 0" ∷ "RUN 7 8 1" ∷ []))
     -- launch 10, tick 15 and the tick itself: the next run starts there
-    ∷ printsNow (now_input 10 15 1 p8_file) (text_of ("NOW 15 16 2" ∷ "NEXT 15 16 2" ∷ "RUN 15 16 2" ∷ []))
+    ∷ prints_now (now_input 10 15 1 p8_file) (text_of ("NOW 15 16 2" ∷ "NEXT 15 16 2" ∷ "RUN 15 16 2" ∷ []))
     -- before the first run, and no tick; after the last
-    ∷ printsNow (now_input 0 2 0 p8_file) (text_of ("NOW NONE" ∷ "NEXT 3 5 0" ∷ []))
-    ∷ printsNow (now_input 0 10 9 p8_file) (text_of ("NOW NONE" ∷ "NEXT NONE" ∷ []))
+    ∷ prints_now (now_input 0 2 0 p8_file) (text_of ("NOW NONE" ∷ "NEXT 3 5 0" ∷ []))
+    ∷ prints_now (now_input 0 10 9 p8_file) (text_of ("NOW NONE" ∷ "NEXT NONE" ∷ []))
     -- a refusal
-    ∷ printsNow (now_input 0 0 0 outermost_exceeds) (text_of ("REFUSED 8 1" ∷ []))
+    ∷ prints_now (now_input 0 0 0 outermost_exceeds) (text_of ("REFUSED 8 1" ∷ []))
     ∷ []
 
 -- A list that is lent to printing is long enough with 13,632 bytes, for every text; a text is not printed into a shorter one, which keeps its content.
@@ -577,8 +577,8 @@ abbrev pub length_rows : List Call
 length_rows =
     limits max_line 71
     ∷ limits max_text 13_632
-    ∷ printsOver (1 ∷ 2 ∷ 3 ∷ []) (replicate 13_631 255) 0 (replicate 13_631 255)
-    ∷ printsOver (1 ∷ 2 ∷ 3 ∷ []) (replicate 13_632 255) 3 (1 ∷ 2 ∷ 3 ∷ replicate 13_629 255)
+    ∷ prints_over (1 ∷ 2 ∷ 3 ∷ []) (replicate 13_631 255) 0 (replicate 13_631 255)
+    ∷ prints_over (1 ∷ 2 ∷ 3 ∷ []) (replicate 13_632 255) 3 (1 ∷ 2 ∷ 3 ∷ replicate 13_629 255)
     -- the most bytes of a file, and how many are read: of a file, of an input of the program `plan`, and of one of the program `now`
     ∷ limits max_file 500
     ∷ limits file_bytes_read 501
@@ -612,7 +612,7 @@ large_rows =
     ∷ reads (file_of (equal_tasks 64 1 1)) 0 0 (equal_tasks 64 1 1)
     -- 4,096 runs are accepted, and counted: they hold every tick of the interval
     ∷ checks (tick_runs 0 4_096) 0 0
-    ∷ busyCounts (tick_runs 0 4_096) 0 4_096 (counted_ticks 4_096)
+    ∷ busy_counts (tick_runs 0 4_096) 0 4_096 (counted_ticks 4_096)
     ∷ []
 
 -- the rows whose test is computed, and all rows

@@ -32,19 +32,19 @@ use Rattle.samples.specs.Refusals.{
   Call,
   reads,
   writes,
-  writesOver,
+  writes_over,
   moves,
-  movesOver,
+  moves_over,
   plans,
   judges,
-  busyCounts,
+  busy_counts,
   checks,
-  asksAt,
-  asksFrom,
-  asksTouching,
-  printsPlan,
-  printsNow,
-  printsOver,
+  asks_at,
+  asks_from,
+  asks_touching,
+  prints_plan,
+  prints_now,
+  prints_over,
   limits,
   found_parts,
 }
@@ -130,21 +130,21 @@ unfoldable pub call_met : Call → Bool
 call_met (reads file number place t) =
     and (eqb (number_of (read_reply file).answer) number) (and (eqb (place_of (read_reply file).answer) place) (tables_equal (read_reply file).table t))
 call_met (writes t room reply) = numbers_equal (written_parts (write_reply t room)) (written_parts reply)
-call_met (writesOver t out after) = numbers_equal (written_over t out) after
+call_met (writes_over t out after) = numbers_equal (written_over t out) after
 call_met (moves file shift room reply) = numbers_equal (written_parts (move_reply file shift room)) (written_parts reply)
-call_met (movesOver file shift out after) = numbers_equal (moved_over file shift out) after
+call_met (moves_over file shift out after) = numbers_equal (moved_over file shift out) after
 call_met (plans file launch lists reply after) =
     and (numbers_equal (plan_parts (plan_reply launch (plain_read file) lists)) (plan_parts reply)) (lists_equal (lists_left launch (plain_read file) reply lists) after)
 call_met (judges file launch marks runs reply) = numbers_equal (judged_parts (judge_reply launch (plain_read file) marks runs)) (judged_parts reply)
-call_met (busyCounts runs a b reply) = numbers_equal (busy_parts (busy_reply runs a b)) (busy_parts reply)
+call_met (busy_counts runs a b reply) = numbers_equal (busy_parts (busy_reply runs a b)) (busy_parts reply)
 call_met (checks runs number place) = and (eqb (runs_number (check_answer runs)) number) (eqb (runs_place (check_answer runs)) place)
-call_met (asksAt runs tick numbers) = numbers_equal (found_parts (run_at_tick runs tick)) numbers
-call_met (asksFrom runs tick numbers) = numbers_equal (found_parts (run_from_tick runs tick)) numbers
-call_met (asksTouching runs a b first part) =
+call_met (asks_at runs tick numbers) = numbers_equal (found_parts (run_at_tick runs tick)) numbers
+call_met (asks_from runs tick numbers) = numbers_equal (found_parts (run_from_tick runs tick)) numbers
+call_met (asks_touching runs a b first part) =
     and (runs_equal (touching runs a b) part) (and (eqb (stretch_of runs a b).first first) (eqb (stretch_of runs a b).runs (length part)))
-call_met (printsPlan input due) = numbers_equal (plan_output input) due
-call_met (printsNow input due) = numbers_equal (now_output input) due
-call_met (printsOver due out bytes after) =
+call_met (prints_plan input due) = numbers_equal (plan_output input) due
+call_met (prints_now input due) = numbers_equal (now_output input) due
+call_met (prints_over due out bytes after) =
     let printed = printed_within (length out) due in
     and (eqb bytes (length printed)) (numbers_equal after (written_front printed out))
 call_met (limits limit number) = eqb limit number

@@ -72,7 +72,7 @@ pub data WeightedCall : Type 0 where
   -- writing a weighted table into a list of so many bytes
   writes : Weighted → ℕ → Written → WeightedCall
   -- writing a weighted table: what a lent list holds before, and then
-  writesOver : Weighted → List ℕ → List ℕ → WeightedCall
+  writes_over : Weighted → List ℕ → List ℕ → WeightedCall
   -- planning a file at a launch tick into lent lists: the reply, and what the lists hold then
   plans : List ℕ → ℕ → LentLists → Planned → LentLists → WeightedCall
   -- judging a file at a launch tick, a keep list and a run list
@@ -89,7 +89,7 @@ WeightedSays (reads file number place w) =
     × ((weighted_read_reply file).weighted.table ≡ w.table)
     × ((weighted_read_reply file).weighted.weights ≡ w.weights)
 WeightedSays (writes w room reply) = weighted_write_reply w room ≡ reply
-WeightedSays (writesOver w out after) = weighted_written_over w out ≡ after
+WeightedSays (writes_over w out after) = weighted_written_over w out ≡ after
 WeightedSays (plans file launch lists reply after) =
     (plan_reply launch (weighted_read file) lists ≡ reply) × (lists_left launch (weighted_read file) reply lists ≡ after)
 WeightedSays (judges file launch marks runs reply) = judge_reply launch (weighted_read file) marks runs ≡ reply
@@ -135,8 +135,8 @@ weighted_rows =
     ∷ writes (weighted (table 1 1 (task 0 5 1 1 ∷ task 5 9 1 1 ∷ [])) (1 ∷ 15 ∷ [])) 0 (not_written 7 1)
     ∷ writes single_table 12 (not_written 9 0)
     ∷ writes single_table 13 (bytes_written 13)
-    ∷ writesOver single_table (replicate 14 0xFF) (single_file ++ 0xFF ∷ [])
-    ∷ writesOver single_table (replicate 12 0xFF) (replicate 12 0xFF)
+    ∷ writes_over single_table (replicate 14 0xFF) (single_file ++ 0xFF ∷ [])
+    ∷ writes_over single_table (replicate 12 0xFF) (replicate 12 0xFF)
     -- planning: the part of weight 1 is dropped, where fewest parts and least ticks would drop task 1's
     ∷ plans nested_file 0 (lists_for 3) (plan_with 2 1 4)
     (lists_of (0 ∷ 1 ∷ 1 ∷ []) (3 ∷ 5 ∷ 7 ∷ 9 ∷ 0 ∷ []) (5 ∷ 7 ∷ 9 ∷ 11 ∷ 0 ∷ []) (1 ∷ 2 ∷ 1 ∷ 0 ∷ 0 ∷ []))
