@@ -44,7 +44,8 @@ fn put_drops(out: &mut [u8], at: usize, marks: &[u8]) -> usize
     let mut next = at;
     let mut i: usize = 0;
     while i < marks.len() {
-        if marks[i] == 0 {
+        let dropped = marks[i] == 0;
+        if dropped {
             next = put_drop(out, next, i);
         }
         i += 1;

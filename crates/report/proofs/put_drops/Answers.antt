@@ -5,7 +5,7 @@ use Rattle.lines.specs.Text.{line}
 use Rattle.printed_plan.specs.Printing.{drop_word, drop_lines}
 use Rattle.lines.proofs.PutLaws.{Putting, putting_start, putting_room, putting_fits, putting_step, putting_end}
 use Rattle.printed_plan.proofs.LineLaws.{drops_left, drops_start, drops_step, drops_skip, drops_end}
-use Rattle.report.proofs.put_drops.Goals.{else-marks-i-eq0, then-marks-i-eq0}
+use Rattle.report.proofs.put_drops.Goals.{else-dropped, then-dropped}
 use Rattle.report.proofs.put_drops.Goals as goal
 
 pub loop-i-init : goal.loop-i-init
@@ -14,17 +14,17 @@ loop-i-init c =
 
 pub put_drop-next-requires : goal.put_drop-next-requires
 put_drop-next-requires c =
-    let next-line : Putting (drop_lines c.args.marks.now) c.args.at c.args.out.now (line drop_word (c.loop-i.i ∷ []) ++ drops_left c.args.marks.now (c.loop-i.i + 1)) c.loop-i.next c.loop-i.out = rw (drops_step c.args.marks.now c.loop-i.i c.loop-i-test.true c.if-marks-i-eq0.true) at c.loop-i.invariant.1 in
+    let next-line : Putting (drop_lines c.args.marks.now) c.args.at c.args.out.now (line drop_word (c.loop-i.i ∷ []) ++ drops_left c.args.marks.now (c.loop-i.i + 1)) c.loop-i.next c.loop-i.out = rw (drops_step c.args.marks.now c.loop-i.i c.loop-i-test.true c.if-dropped.true) at c.loop-i.invariant.1 in
     putting_fits _ _ _ c.requires (line drop_word (c.loop-i.i ∷ [])) _ _ _ (next-line)
 
 pub loop-i-preserved : goal.loop-i-preserved
 loop-i-preserved c =
-    elim c.if-marks-i-eq0.branch [
-      | then-marks-i-eq0 w ↦
+    elim c.if-dropped.branch [
+      | then-dropped w ↦
           let next-line : Putting (drop_lines c.args.marks.now) c.args.at c.args.out.now (line drop_word (c.loop-i.i ∷ []) ++ drops_left c.args.marks.now (c.loop-i.i + 1)) c.loop-i.next c.loop-i.out =
-          rw (drops_step c.args.marks.now c.loop-i.i c.loop-i-test.true w.if-marks-i-eq0.true) at c.loop-i.invariant.1 in
+          rw (drops_step c.args.marks.now c.loop-i.i c.loop-i-test.true w.if-dropped.true) at c.loop-i.invariant.1 in
           (omega arith, rw (w.next-is, w.out-is) (putting_step _ _ _ c.requires _ _ _ _ _ _ next-line w.put_drop-next.ensures))
-      | else-marks-i-eq0 w ↦ (omega arith, rw (w.next-is, w.out-is, ← drops_skip c.args.marks.now c.loop-i.i c.loop-i-test.true w.if-marks-i-eq0.false) c.loop-i.invariant.1)
+      | else-dropped w ↦ (omega arith, rw (w.next-is, w.out-is, ← drops_skip c.args.marks.now c.loop-i.i c.loop-i-test.true w.if-dropped.false) c.loop-i.invariant.1)
     ]
 
 pub shape_of-out : goal.shape_of-out
