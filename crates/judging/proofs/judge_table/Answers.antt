@@ -52,9 +52,10 @@ returns-then-too_many c =
 pub jobs_of-jobs-requires : goal.jobs_of-jobs-requires
 jobs_of-jobs-requires c =
     let accepted : bad_launch c.args.launch ≡ false = sym c.bad_launch.ensures ∙ c.if-bad_launch.false in
+    let small : c.args.launch ≤ max_launch = ltb-false max_launch _ (accepted) in
     let t = c.args.table in
     let l = c.requires.legal in
-    record { count_le_max_tasks = (legal_count l).1; launch_le_max_launch = ltb-false max_launch _ (accepted); q_value = c.requires.legal.timed; by_index = legal_frames t l }
+    record { count_le_max_tasks = (legal_count l).1; launch_le_max_launch = omega arith; q_value = c.requires.legal.timed; by_index = legal_frames t l }
 
 pub verdict_of-requires : goal.verdict_of-requires
 verdict_of-requires c =
