@@ -112,8 +112,8 @@ def clashes(root, names):
         code = "\n".join(COMMENT.sub("", l) if path.endswith(".antt") else l.split("//")[0] for l in lines)
         tokens = set(NAME.findall(code))
         for old, word in names.items():
-            alone = re.compile(r"(?<![\w.'-])(?<!ensures )" + re.escape(word) + r"(?![\w.'(:<-])")
-            if old in tokens and word in tokens and word not in names and alone.search(code):
+            alone = r"(?<![\w.'-])(?<!ensures )" + re.escape(word) + r"(?![\w.'(:<-])"
+            if old in tokens and word in tokens and word not in names and re.search(alone, code):
                 said.append(f"{os.path.relpath(path, root)}: {word} is in use, and {old} would be it")
     return said
 
