@@ -290,8 +290,7 @@ pub fn judge_copied(file: &[u8], launch: u32, marks: &[u8], columns: RunColumns)
     judge_read_copied(reading::read(file), launch, marks, columns)
 }
 
-// Judging on what was read of a file of whatever form, by run records. All judges over run records call it, so that the columns are made beside the one pass
-// over them: lent to a function that several call, they would be copied once more.
+// Judging on what was read of a file of whatever form, by run records. All judges over run records call it.
 pub fn judge_records(read: Reading, launch: u32, marks: &[u8], runs: &[Run]) -> Judged
     requires { LegalRead (taken_from read) }
     ensures { result ≡ judge_reply launch (taken_from read) marks.now runs.now }
