@@ -134,20 +134,8 @@ def turned_rt(text, names):
     return "\n".join(out)
 
 
-def free_alias(root):
-    """One proof calls a module by the name that a definition gets."""
-    path = os.path.join(root, "crates", "record_calls", "proofs", "ask_rows", "Proof.antt")
-    text = text_of(path)
-    to = text.replace("as columns_of\n", "as columns-of-contract\n").replace(" columns_of.ended", " columns-of-contract.ended").replace("(columns_of.clauses", "(columns-of-contract.clauses")
-    if to != text:
-        with open(path, "w", encoding="utf-8") as f:
-            f.write(to)
-
-
 def main(argv):
     root = os.getcwd()
-    if argv != ["--names"]:
-        free_alias(root)
     names = mapping(root)
     if argv == ["--names"]:
         for old in names:

@@ -1,6 +1,7 @@
 pub mod TestLaws
 pub mod PeriodLaws
 pub mod LowestLaws
+pub mod FoundLaws
 pub mod PlaceLaws
 pub mod ArrayFilling
 pub mod Storing

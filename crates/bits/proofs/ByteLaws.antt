@@ -38,24 +38,30 @@ field_within s a v w x =
     rw (field_add s a (v + w) x, high (field s a (v + w)) x (field_lt s (a + (v + w)) x)) (field_add s a v w) in
     rw front (sym (low (field s a v) w (field_lt s (a + v) w)))
 
--- Two fields, one behind the other, each shifted up to its place, are one field shifted up.
-pub field_places : (s : List ℕ) (a b v w u : ℕ) → a + v ≡ b → field s a v * 2 ^ (w + u) + field s b w * 2 ^ u ≡ field s a (v + w) * 2 ^ u
-field_places s a b v w u e = rw (← e, field_add s a v w, pow-add 2 w u) (omega arith)
+-- Bytes from byte k on as one number: one byte more.
+byte_more : (s : List ℕ) (k n : ℕ) → get_or s (k + n) 0 < 256 → field s (8 * k) (8 * n + 8) ≡ field s (8 * k) (8 * n) * 256 + get_or s (k + n) 0
+byte_more s k n small =
+    let at : 8 * k + 8 * n ≡ 8 * (k + n) = omega arith in
+    rw (← byte_whole s (k + n) small, ← at) (field_add s (8 * k) (8 * n) 8)
 
--- A field shifted up fits 64 bits where its place does.
-pub field_up_lt : (s : List ℕ) (a w u : ℕ) → w + u ≤ 64 → field s a w * 2 ^ u < 18446744073709551616
-field_up_lt s a w u h = omega (arith, shl_lt w u (field_lt s a w), pow_mono {i = w + u} {j = 64} h)
+-- Four bytes as one number, and eight.
+pub four_field : (s : List ℕ) (k : ℕ) → ((i : ℕ) → get_or s i 0 < 256)
+    → get_or s k 0 * 16777216 + get_or s (k + 1) 0 * 65536 + get_or s (k + 2) 0 * 256 + get_or s (k + 3) 0 ≡ field s (8 * k) 32
+four_field s k small =
+    omega (arith, byte_whole s k (small k), byte_more s k 1 (small (k + 1)), byte_more s k 2 (small (k + 2)), byte_more s k 3 (small (k + 3)))
 
--- Two bytes, each shifted up to its place as it is computed, are a field of 16 bits shifted up.
-pub bytes_field : (s : List ℕ) (k u : ℕ) → u ≤ 48 → get_or s k 0 < 256 → get_or s (k + 1) 0 < 256
-    → (get_or s k 0 * 2 ^ (8 + u)) % 18446744073709551616 + (get_or s (k + 1) 0 * 2 ^ u) % 18446744073709551616 ≡ field s (8 * k) 16 * 2 ^ u
-bytes_field s k u h l m =
-    rw (
-      ← byte_whole s k l,
-      ← byte_whole s (k + 1) m,
-      shl_exact 8 (8 + u) 64 (field_lt s (8 * k) 8) (omega arith),
-      shl_exact 8 u 64 (field_lt s (8 * (k + 1)) 8) (omega arith),
-    ) (field_places s (8 * k) (8 * (k + 1)) 8 8 u (omega arith))
+pub eight_field : (s : List ℕ) (k : ℕ) → ((i : ℕ) → get_or s i 0 < 256)
+    → get_or s k 0 * 72057594037927936 + get_or s (k + 1) 0 * 281474976710656 + get_or s (k + 2) 0 * 1099511627776 + get_or s (k + 3) 0 * 4294967296
+    + get_or s (k + 4) 0 * 16777216 + get_or s (k + 5) 0 * 65536 + get_or s (k + 6) 0 * 256 + get_or s (k + 7) 0 ≡ field s (8 * k) 64
+eight_field s k small =
+    omega (
+      arith,
+      four_field s k small,
+      byte_more s k 4 (small (k + 4)),
+      byte_more s k 5 (small (k + 5)),
+      byte_more s k 6 (small (k + 6)),
+      byte_more s k 7 (small (k + 7)),
+    )
 
 -- A number of 64 bits, A then B, shifted up by as many bits as A has: A is lost.
 shifted_up : (A B v r : ℕ) → B < 2 ^ r → v + r ≡ 64 → ((A * 2 ^ r + B) * 2 ^ v) % 18446744073709551616 ≡ B * 2 ^ v

@@ -1,181 +1,171 @@
 // A case on a line: its title, which ends with a colon, and fields with a semicolon between them. A field is a space and a list: numbers in decimal,
 // with one byte between them, or bytes, two hexadecimal digits each. A number `v*n` stands for n times v, and `v+n` for the n numbers from v on.
-ghost use Rattle.std.specs.Prelude.{◌≤◌, ◌<◌, length};
+ghost use Rattle.std.specs.Prelude.{◌<◌, ◌≤◌, length, IfSome};
 ghost use Rattle.io.specs.Counts.{IsPrefixLen};
 
-use crate::print;
+use crate::{STDIN, print};
 
-// A number that was read: its value, and the index behind its digits.
+// The numbers that one item of a list stands for: how many, at least one, the first of them, what each is above the one before it; and the bytes behind the item.
 #[derive(Clone, Copy)]
-struct Decimal {
-    value: u64,
-    next: usize,
-}
-
-// The numbers that one item of a list stands for: how many, the first of them, what each is above the one before it, and the index behind the item.
-#[derive(Clone, Copy)]
-struct Item {
+struct Item<'a> {
     count: u64,
     value: u64,
     step: u64,
-    next: usize,
+    behind: &'a [u8],
 }
 
-// No numbers.
-const NO_ITEM: Item = Item {
-    count: 0,
-    value: 0,
-    step: 0,
-    next: 0,
-};
-
-// The index behind the line that the index `start` is in.
-pub fn next_line(text: &[u8], start: usize) -> usize
-    requires { start < length text.now }
-    ensures { (start < result) × (result ≤ length text.now) }
+// Runs a case on each line of standard input: on its first byte, and on the line with the newline that ends it.
+pub fn for_each_line<F: FnMut(u8, &[u8])>(mut case: F)
+    requires { F.IsAlwaysCallable case }
 {
-    let mut i = start;
-    while i < text.len() {
-        i += 1;
-        if text[i - 1] == b'\n' {
-            return i;
+    let mut text = io::large_buffer();
+    let length = io::read_full(STDIN, &mut text);
+    for line in text[..length].split_inclusive(|byte| *byte == b'\n') {
+        if let Some(start) = line.first() {
+            case(*start, line);
         }
     }
-    i
 }
 
-// Where a field of a line starts: the title is field 0. It is the line's end where the line has no such field.
-pub fn start_of(line: &[u8], field: usize) -> usize
-    ensures { result ≤ length line.now }
+// The bytes of a line from a field on: the title is field 0. There are none where the line has no such field.
+pub fn from_field(line: &[u8], field: usize) -> &[u8]
+    ensures { length result.now ≤ length line.now }
 {
-    let mut left = field;
-    let mut i: usize = 0;
-    while i < line.len() {
-        if left == 0 {
-            return i;
+    let mut rest = line;
+    for _ in 0..field {
+        match rest.iter().position(|byte| *byte == b':' || *byte == b';') {
+            Some(end) => rest = &rest[end + 1..],
+            None => return &rest[rest.len()..],
         }
-        if line[i] / 2 == b':' / 2 {
-            left -= 1;
-        }
-        i += 1;
     }
-    i
+    rest
 }
 
-// Prints the title of a line.
+// Prints the title of a line, with its colon.
 pub fn show_title(line: &[u8]) {
-    let end = start_of(line, 1);
-    print::text(&line[0..end]);
+    let title = line.len() - from_field(line, 1).len();
+    print::text(&line[..title]);
 }
 
-// What a digit stands for, in decimal or in hexadecimal in upper case, and 16 for any other byte.
-fn digit(byte: u8) -> u64
-    ensures { result ≤ 16 }
+// What a hexadecimal digit, in upper case, stands for.
+fn digit(byte: u8) -> Option<u8>
+    ensures { IfSome result (λ value. value < 16) }
 {
     match byte {
-        b'0'..=b'9' => (byte % 16) as u64,
-        b'A'..=b'F' => (byte % 16) as u64 + 9,
-        _ => 16,
+        b'0'..=b'9' => Some(byte - b'0'),
+        b'A'..=b'F' => Some(byte - b'A' + 10),
+        _ => None,
     }
 }
 
-// The number whose digits start at an index.
-fn decimal_at(line: &[u8], start: usize) -> Decimal {
+// The byte of two hexadecimal digits.
+fn byte(digits: &[u8]) -> Option<u8> {
+    let [high, low] = digits else {
+        return None;
+    };
+    Some(digit(*high)? * 16 + digit(*low)?)
+}
+
+// The number whose decimal digits stand at the front of some bytes, and the bytes behind them.
+fn decimal(text: &[u8]) -> (u64, &[u8]) {
     let mut value: u64 = 0;
-    let mut next = start;
-    while next < line.len() {
-        let digit = digit(line[next]);
-        if 9 < digit {
-            return Decimal { value, next };
+    for (place, byte) in text.iter().enumerate() {
+        if !byte.is_ascii_digit() {
+            return (value, &text[place..]);
         }
-        value = value % 1_000_000_000 * 10 + digit;
-        next += 1;
+        value = value % 1_000_000_000 * 10 + u64::from(*byte - b'0');
     }
-    Decimal { value, next }
+    (value, &text[text.len()..])
 }
 
-// The item that stands behind an index, if one does.
-fn item_behind(line: &[u8], index: usize) -> Item {
-    if line.len() <= index {
-        return NO_ITEM;
+// The item at the front of some bytes, behind the byte that stands before each item, if an item is there.
+fn first_item(text: &[u8]) -> Option<Item> {
+    let (_, text) = text.split_first()?;
+    let (value, rest) = decimal(text);
+    if rest.len() == text.len() {
+        return None;
     }
-    let first = decimal_at(line, index + 1);
-    let next = first.next;
-    if next == index + 1 {
-        return NO_ITEM;
+    let (mark, behind) = rest.split_first()?;
+    let step = match *mark {
+        b'*' => 0,
+        b'+' => 1,
+        _ => {
+            return Some(Item {
+                count: 1,
+                value,
+                step: 0,
+                behind: rest,
+            });
+        }
+    };
+    let (count, behind) = decimal(behind);
+    if count == 0 {
+        return None;
     }
-    if line.len() <= next {
-        return NO_ITEM;
-    }
-    let mark = line[next];
-    if mark / 2 != b'*' / 2 {
-        return Item {
-            count: 1,
-            value: first.value,
-            step: 0,
-            next,
-        };
-    }
-    let count = decimal_at(line, next + 1);
-    Item {
-        count: count.value,
-        value: first.value,
-        step: (mark % 2) as u64,
-        next: count.next,
-    }
+    Some(Item {
+        count,
+        value,
+        step,
+        behind,
+    })
 }
 
 // The numbers of a list behind the first number of an item.
-fn rest(line: &[u8], item: Item) -> Item {
+fn rest(item: Item) -> Option<Item> {
     if item.count <= 1 {
-        return item_behind(line, item.next);
+        return first_item(item.behind);
     }
-    let mut rest = item;
-    rest.count = item.count - 1;
-    rest.value = item.value % 4_294_967_296 + item.step % 2;
-    rest
+    Some(Item {
+        count: item.count - 1,
+        value: item.value % 4_294_967_296 + item.step % 2,
+        step: item.step,
+        behind: item.behind,
+    })
 }
 
 // Puts the numbers of a field into a list, as many as the list holds, and answers how many.
 pub fn numbers(line: &[u8], field: usize, list: &mut [u32]) -> usize
     ensures { IsPrefixLen result list.new }
 {
-    let mut item = item_behind(line, start_of(line, field));
-    let mut count: usize = 0;
-    while count < list.len() {
-        if item.count == 0 {
+    let mut next = first_item(from_field(line, field));
+    for (count, place) in list.iter_mut().enumerate() {
+        let Some(item) = next else {
             return count;
-        }
-        list[count] = (item.value % 4_294_967_296) as u32;
-        item = rest(line, item);
-        count += 1;
+        };
+        *place = (item.value % 4_294_967_296) as u32;
+        next = rest(item);
     }
-    count
+    list.len()
 }
 
 // The first number of a field, and 0 where it has none.
 pub fn number(line: &[u8], field: usize) -> u32 {
-    let first = item_behind(line, start_of(line, field));
-    (first.value % 4_294_967_296) as u32
+    match first_item(from_field(line, field)) {
+        Some(item) => (item.value % 4_294_967_296) as u32,
+        None => 0,
+    }
 }
 
 // Puts the bytes of a field into a list, as many as the list holds, and answers how many.
 pub fn bytes(line: &[u8], field: usize, list: &mut [u8]) -> usize
     ensures { IsPrefixLen result list.new }
 {
-    let mut before = start_of(line, field);
-    let mut count: usize = 0;
-    while count < list.len() {
-        if line.len() - before < 3 {
+    bytes_in(from_field(line, field), list)
+}
+
+// Puts the bytes that a field has, behind its space, into a list, as many as the list holds, and answers how many.
+pub fn bytes_in(field: &[u8], list: &mut [u8]) -> usize
+    ensures { IsPrefixLen result list.new }
+{
+    let Some((_, digits)) = field.split_first() else {
+        return 0;
+    };
+    let mut pairs = digits.chunks_exact(2);
+    for (count, place) in list.iter_mut().enumerate() {
+        let Some(byte) = pairs.next().and_then(byte) else {
             return count;
-        }
-        let high = digit(line[before + 1]);
-        if high == 16 {
-            return count;
-        }
-        list[count] = ((high * 16 + digit(line[before + 2])) % 256) as u8;
-        before += 2;
-        count += 1;
+        };
+        *place = byte;
     }
-    count
+    list.len()
 }

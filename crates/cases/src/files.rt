@@ -6,51 +6,33 @@ ghost use Rattle.io.specs.Counts.{IsPrefixLen};
 
 use crate::fields;
 
-// A byte stands behind a field: the semicolon before the next one, or the end of the line.
-fn is_end(byte: u8) -> bool {
-    byte == b';' || byte == b'\n'
-}
-
-// A field is, behind its space, the title of a file's line, without the title's colon.
-fn is_title(file: &[u8], field: &[u8]) -> bool {
-    let mut i: usize = 0;
-    while i < file.len() {
-        if field.len() - i < 2 {
-            return false;
-        }
-        if file[i] == b':' {
-            return is_end(field[i + 1]);
-        }
-        if file[i] != field[i + 1] {
-            return false;
-        }
-        i += 1;
+// The bytes before the first of a given value, or all of them where there is none.
+fn until(text: &[u8], byte: u8) -> &[u8] {
+    match text.iter().position(|other| *other == byte) {
+        Some(end) => &text[..end],
+        None => text,
     }
-    false
 }
 
-// Puts the file that a field names into a list, or, where it names none of some files, the bytes that the field itself has. It answers how many bytes
-// there are.
+// Puts the file that a field names, behind its space, into a list, or, where it names none of some files, the bytes that the field itself has. It answers how
+// many bytes there are.
 fn named(files: &[u8], field: &[u8], list: &mut [u8]) -> usize
     ensures { IsPrefixLen result list.new }
 {
-    let mut start: usize = 0;
-    while start < files.len() {
-        let next = fields::next_line(files, start);
-        let file = &files[start..next];
-        if is_title(file, field) {
-            return fields::bytes(file, 1, list);
-        }
-        start = next;
+    let name = until(until(field, b'\n'), b';').get(1..).unwrap_or(&[]);
+    match files
+        .split(|byte| *byte == b'\n')
+        .find(|file| until(file, b':') == name)
+    {
+        Some(file) => fields::bytes(file, 1, list),
+        None => fields::bytes_in(field, list),
     }
-    fields::bytes(field, 0, list)
 }
 
 // Puts the file of a field into a list, as many of its bytes as the list holds, and answers how many: a file below by its name, or a file by its bytes.
 pub fn file(line: &[u8], field: usize, list: &mut [u8]) -> usize
     ensures { IsPrefixLen result list.new }
 {
-    let start = fields::start_of(line, field);
     named(
         b"P4: 020C80020000000100C80190\n\
         P4-WIDER: 020C80020000000180C80190\n\
@@ -89,7 +71,7 @@ pub fn file(line: &[u8], field: usize, list: &mut [u8]) -> usize
         SIMILAR-WIDER: 0600200200030005000600100000000C000800200040005800200180\n\
         FULL: 807D20140000FFFFFFFE000001BFFE8DFFC0016001EFFE6FFE200B00237FE29FF50042003CFFCDFFC6016002AFFDC5FEE006E005AFFB4FFAA02100027FFE1FE7009A0078FF9BFF8E02C0009FFF7DFE000C60096FF82FF7203700117FF19FD900F200B4FF69FF560420018FFEB5FD2011E0012FFF0FF3A04D00207FE51FCB014A0030FFD7FF1E0580027FFDEDFC40176004EFFBEFF02063002F7FD89FBD01A2006CFFA5FEE606E0006FFFA5FB601CE008AFF8CFECA079000E7FF41FAF01FA00A8FF73FEAE0840015FFEDDFA802260006FFFAFE9208F001D7FE79FA102520024FFE1FE7609A0024FFE15F9A027E0042FFC8FE5A0A5002C7FDB1F9302AA0060FFAFFE3E0B00003FFFCDF8C02D6007EFF96FE220BB000B7FF69F850302009CFF7DFE060C60012FFF05F7E032E00BAFF64FDEA0D1001A7FEA1F77035A0018FFEBFDCE0DC0021FFE3DF7003860036FFD2FDB20E700297FDD9F6903B20054FFB9FD960F20000FFFF5F6203DE0072FFA0FD7A0FD00087FF91F5B040A0090FF87FD5E108000FFFF2DF54043600AEFF6EFD4211300177FEC9F4D0462000CFFF5FD2611E001EFFE65F46048E002AFFDCFD0A12900267FE01F3F04BA0048FFC3FCEE134002DFFD9DF3804E60066FFAAFCD213F00057FFB9F3105120084FF91FCB614A000CFFF55F2A053E00A2FF78FC9A15500147FEF1F23056A\n\
         SIMILAR-64: 807D20140000007D006400002A30170C026803615180B0900D001B01A900F3C02180221130091500BC01600AF0076C01C800E0D48072100A801105F50319C037807A0960052D009400C04FB029CC03280660578033900800070401021FC02D805201900145006C002030701A2C028803E16A80BD100D801D020D0125C023802A12C009DD00C4018011300A8C01E80160ED807E900B00130019002BC01980020AF005F5009C00E055F02CEC034806E07080401008800904650251C02F805A0320020D0074004036B01D4C02A804618380C9900E001F02710157C025803214500AA500CC01A017700DAC020801E106808B100B8015007D005DC01B800A0C8006BD00A401005C30300C0368076089804C9009000B04C90283C031806204B002D5007C00603CF0206C02C804E00C800E1006800102D50189C027803A15E00B6D00D401C01DB010CC022802611F8097900C001700E1008FC01D80120E10078500AC01206270332C038807E0A280591009800D052D02B5C033806A0640039D008400804330238C02E8056025801A90070003033901BBC029804217700C3500DC01E023F013EC024802E13880A4100C8019014500C1C01F801A0FA0084D00B4014004B0044C01A80060BB8065900A000F059102E7C035807207D00465008C00A0497026AC030805E03E802710078005039D01EDC02B804A\n",
-        &line[start..],
+        fields::from_field(line, field),
         list,
     )
 }

@@ -4,14 +4,16 @@
 mod fields;
 mod files;
 mod lent;
+mod plans;
 mod print;
 
 // The descriptors of standard input and of standard output.
-pub const STDIN: i32 = 0;
+const STDIN: i32 = 0;
 
 pub const STDOUT: i32 = 1;
 
-pub use fields::{bytes, next_line, number, numbers, show_title, start_of};
+pub use fields::{bytes, for_each_line, from_field, number, numbers, show_title};
 pub use files::file;
-pub use lent::{PATTERN, show_kept};
+pub use lent::{PATTERN, show_kept, show_written};
+pub use plans::{Lists, MARK, show_row};
 pub use print::{show, text};

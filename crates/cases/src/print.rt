@@ -8,16 +8,12 @@ pub fn text(bytes: &[u8]) {
 
 // A pattern, with the next of the numbers, in decimal, for each `#`.
 pub fn show(pattern: &[u8], numbers: &[u64]) {
-    let mut used: usize = 0;
-    let mut i: usize = 0;
-    while i < pattern.len() {
-        let next = i + 1;
-        if pattern[i] != b'#' {
-            text(&pattern[i..next]);
-        } else if used < numbers.len() {
-            io::print_decimal(STDOUT, numbers[used]);
-            used += 1;
+    let mut left = numbers.iter();
+    for byte in pattern {
+        if *byte != b'#' {
+            text(&[*byte]);
+        } else if let Some(number) = left.next() {
+            io::print_decimal(STDOUT, *number);
         }
-        i = next;
     }
 }

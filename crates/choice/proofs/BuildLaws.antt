@@ -17,7 +17,7 @@ use Rattle.schedule.specs.JobArrays.{Bounded}
 use Rattle.choice.specs.Choice.{fits, keep_none, kept_worth, discarded_worth, chosen_over, count_one}
 use Rattle.choice.specs.Programme.{mandatory_sum, outermost_ticks, all_worth, row, greatest, best_worth, by_rows}
 use Rattle.choice.specs.Decisions.{row_places, huge_ticks, row_over, row_of, back_over, jobs_from, Last, Reaches, Convex, JobAdded, Decided}
-use Rattle.choice.proofs.ProgrammeLaws.{greatest_only, greatest_same, row_below}
+use Rattle.choice.proofs.ProgrammeLaws.{greatest_only, row_below}
 use Rattle.choice.proofs.FitLaws.{fits_length, fits_tail, fits_room, worth_split}
 use Rattle.choice.proofs.ChoiceLaws.{chosen_rows, chosen_keeps}
 use Rattle.choice.proofs.PartLaws.{Widened, widened, Cut, row_cut}
@@ -116,23 +116,17 @@ module _ (at : ℕ → Job) (count : ℕ) (small : count ≤ max_tasks) where
 
     module _ (bounded : Bounded (at i)) (worth rank next room : ℕ) (row : List ℕ) (one : worth ≡ count_one (at i)) (added : JobAdded (at i) top rank ticks row)
         (room-is : room ≡ window_ticks (at i) - (mandatory + (at i).mandatory))
-        (next_is : next ≡ greatest (room + 1) (λ v. get_or row (0 + v) 0) (top + worth)) where
+        (next_is : next ≡ greatest (room + 1) (λ v. get_or row v 0) (top + worth)) where
       -- the row before the window is looked at
       row-widened : Widened (at i) (row_of (jobs_from at count (i + 1))) rank (top + worth) (λ v. get_or row v 0)
       row-widened = rw one (widened (at i) (row_of (jobs_from at count (i + 1))) top b.reaches b.convex ticks row b.numbers rank added (omega (arith, b.small, bounded.optional)))
 
-      -- and where it is cut
-      next-cut : next ≡ greatest (room + 1) (λ v. get_or row v 0) (top + worth)
-      next-cut =
-          next_is
-          ∙ greatest_same (room + 1) (λ v. get_or row (0 + v) 0) (λ v. get_or row v 0) (top + worth)
-          (λ v l. let z : 0 + v ≡ v = omega arith in rw z)
-
+      -- and where it is cut,
       -- beside the mandatory ticks of the job and those inside it
       cut : Cut (at i) (jobs_from at count (i + 1)) rank (top + worth) next (λ v. get_or row v 0)
       cut =
           row_cut (at i) (jobs_from at count (i + 1)) rank (top + worth) room next (λ v. get_or row v 0) row-widened none-step
-          (omega (arith, bounded.deadline)) (omega (arith, room-is, mandatory-step)) next-cut
+          (omega (arith, bounded.deadline)) (omega (arith, room-is, mandatory-step)) next_is
 
       -- the rank of the job is written, and those of the jobs inside it stand beyond
       decided-step : Decided at count i (set ranks i rank)

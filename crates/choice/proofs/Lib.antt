@@ -9,5 +9,6 @@ pub mod ConvexLaws
 pub mod PartLaws
 pub mod BuildLaws
 pub mod BackLaws
+pub mod JobLists
 pub mod SampleLaws
 pub mod ShiftLaws

@@ -8,6 +8,7 @@ use native.Mathlib.Nat.{zero-add, add-sub_cancel_left}
 use native.Mathlib.Omega.{arith}
 use native.Mathlib.Decide.{dec_lt, ℕ_discrete}
 use lib.Dec.{leb, ltb, eqb}
+use lib.ListN.{length, get_or}
 use borrow.Author.Tests.{leb-true, leb-false, ltb-true, ltb-false, eqb-true, eqb-false, le-leb, lt-leb, lt-ltb, le-ltb}
 use Rattle.base.proofs.TestLaws.{pick_true, pick_false, both_absurd, pick_cases, picked}
 use Rattle.schedule.specs.declared.Job.{Job}
@@ -116,6 +117,13 @@ module _ (huge : ℕ) where
   unfolding greatest
   greatest_same f g zero h = refl
   greatest_same f g (suc n) h = rw (h (suc n) (omega arith), greatest_same f g n (λ k l. h k (omega arith)))
+
+  -- the same over a part of a list
+  pub greatest_part : (f : ℕ → ℕ) (part : List ℕ) (n : ℕ) → length part ≡ n + 1 → ((k : ℕ) → k ≤ n → get_or part k 0 ≡ f k)
+      → greatest huge (λ v. get_or part v 0) (length part - 1) ≡ greatest huge f n
+  greatest_part f part n size h =
+      let e : length part - 1 ≡ n = omega arith in
+      rw e (greatest_same (λ v. get_or part v 0) f n h)
 
 module _ (worth : Job → ℕ) (huge : ℕ) where
   -- at v the least ticks with the job kept, where its window is not yet looked at

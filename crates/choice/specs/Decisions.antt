@@ -7,7 +7,7 @@ use Rattle.base.specs.Places.{places_from}
 use Rattle.schedule.specs.declared.Job.{Job}
 use Rattle.choice.specs.Choice.{count_one}
 use Rattle.schedule.specs.Jobs.{counts}
-use Rattle.schedule.specs.JobArrays.{no_job, jobs_in}
+use Rattle.schedule.specs.JobArrays.{no_job}
 use Rattle.choice.specs.Programme.{all_worth, keeping, row, backtrack}
 
 -- the places of a row: one for each number of optional parts that a list can keep, 0 among them
@@ -91,12 +91,12 @@ pub record DecidedBy (worth : Job → ℕ) (at : ℕ → Job) (count i : ℕ) (t
 abbrev pub Decided : (ℕ → Job) → ℕ → ℕ → List ℕ → Type 0
 Decided at count i ranks = DecidedBy count_one at count i (λ k v. keeps_above (at k) (get_or ranks k 0) v)
 
--- the ranks of the first `count` of some jobs, the number of their optional parts above 0 ticks, and the most of them that a list that fits keeps
-abbrev pub RowsMade : List Job → ℕ → List ℕ → ℕ → ℕ → Type 0
-RowsMade jobs count ranks all most =
-    Decided (λ k. get_or jobs k no_job) count 0 ranks
-    × Reaches (row_of (jobs_in jobs count)) most
-    × (all ≡ all_worth count_one (jobs_in jobs count))
-    × (most ≤ count)
-    × (all ≤ count)
+-- the ranks of some jobs, the number of their optional parts above 0 ticks, and the most of them that a list that fits keeps
+abbrev pub RowsMade : List Job → List ℕ → ℕ → ℕ → Type 0
+RowsMade jobs ranks all most =
+    Decided (λ k. get_or jobs k no_job) (length jobs) 0 ranks
+    × Reaches (row_of jobs) most
+    × (all ≡ all_worth count_one jobs)
+    × (most ≤ length jobs)
+    × (all ≤ length jobs)
     × (length ranks ≡ max_tasks)

@@ -8,7 +8,7 @@ ghost use Rattle.base.specs.Limits.{max_tasks, max_ticks};
 ghost use Rattle.schedule.specs.Jobs.{window_ticks};
 ghost use Rattle.choice.specs.KeepLists.{keeps_in, ChosenFor};
 ghost use Rattle.choice.specs.Choice.{fits, keep_none, count_one, chosen};
-ghost use Rattle.schedule.specs.JobArrays.{no_job, jobs_in, AllBounded};
+ghost use Rattle.schedule.specs.JobArrays.{no_job, AllBounded};
 ghost use Rattle.choice.specs.Programme.{greatest};
 ghost use Rattle.choice.specs.Decisions.{row_places, huge_ticks, row_of, back_of, keeps_above, Decided, PartAdded, JobAdded, RowsMade};
 
@@ -41,10 +41,7 @@ struct Parts {
 pub fn worth(job: Job) -> usize
     ensures { result ≡ count_one job }
 {
-    if 0 < job.optional {
-        return 1;
-    }
-    0
+    usize::from(0 < job.optional)
 }
 
 // The ticks of a job's window that are left beside mandatory ticks.
@@ -64,14 +61,12 @@ fn add_part(row: &mut [u32], top: usize, optional: u32) -> usize
     ensures { PartAdded optional top result row.old row.new }
 {
     row[top + 1] = optional + row[top];
-    let mut v = top;
-    while 0 < v {
+    for v in (1..=top).rev() {
         let with = optional + row[v - 1];
         if row[v] < with {
             return v;
         }
         row[v] = with;
-        v -= 1;
     }
     0
 }
@@ -89,44 +84,40 @@ fn add_job(row: &mut [u32], top: usize, job: Job) -> usize
     add_part(row, top, job.optional)
 }
 
-// The greatest v up to `most` at which the number at place from + v is at most `room`, and 0 where there is none.
-pub fn most_within(rows: &[u32], from: usize, most: usize, room: u32) -> usize
-    requires { from + most < length rows.now }
-    ensures { result ≡ greatest (room + 1) (λ v. get_or rows.now (from + v) 0) most }
+// The greatest place of a row whose number is at most `room`, and 0 where there is none.
+pub fn most_within(row: &[u32], room: u32) -> usize
+    requires { 0 < length row.now }
+    ensures { result ≡ greatest (room + 1) (λ v. get_or row.now v 0) (length row.now - 1) }
 {
-    let mut v = most;
-    while 0 < v {
-        if rows[from + v] <= room {
+    for v in (1..row.len()).rev() {
+        if row[v] <= room {
             return v;
         }
-        v -= 1;
     }
     0
 }
 
-// The row of the jobs that stand outermost first at the first `count` places, in a lent row of zeros, and the rank of each. A job adds its mandatory ticks
-// once, and what its window has beside them is found once: the row is cut at it.
-fn rows_of(jobs: [Job; MAX_TASKS], count: usize, row: &mut [u32], ranks: &mut [usize]) -> Parts
-    requires count_le_max_tasks { count ≤ max_tasks }
-    requires all_bounded { AllBounded jobs count }
-    requires count_value { fits (jobs_in jobs count) (keep_none (jobs_in jobs count)) ≡ true }
+// The row of jobs that stand outermost first, in a lent row of zeros, and the rank of each. A job adds its mandatory ticks once, and what its window has
+// beside them is found once: the row is cut at it.
+fn rows_of(jobs: &[Job], row: &mut [u32], ranks: &mut [usize]) -> Parts
+    requires count_le_max_tasks { length jobs.now ≤ max_tasks }
+    requires all_bounded { AllBounded jobs.now }
+    requires count_value { fits jobs.now (keep_none jobs.now) ≡ true }
     requires row_value { row.old ≡ replicate row_places 0 }
     requires ranks_len { length ranks.old ≡ max_tasks }
-    ensures { RowsMade jobs count ranks.new result.all result.most }
+    ensures { RowsMade jobs.now ranks.new result.all result.most }
 {
     let mut mandatory: u32 = 0;
     let mut all: usize = 0;
     let mut top: usize = 0;
-    let mut i = count;
-    while 0 < i {
-        i -= 1;
+    for i in (0..jobs.len()).rev() {
         let job = jobs[i];
         let sum = mandatory + job.mandatory;
         let room = room_beside(job, sum);
         ranks[i] = add_job(row, top, job);
         let part = worth(job);
         all += part;
-        top = most_within(row, 0, top + part, room);
+        top = most_within(&row[..=top + part], room);
         mandatory = sum;
     }
     Parts { all, most: top }
@@ -136,53 +127,42 @@ fn rows_of(jobs: [Job; MAX_TASKS], count: usize, row: &mut [u32], ranks: &mut [u
 fn keeps_above(job: Job, rank: usize, left: usize) -> bool
     ensures { result ≡ keeps_above job rank left }
 {
-    if job.optional == 0 {
-        return true;
-    }
-    rank < left
+    job.optional == 0 || rank < left
 }
 
 // The marks from the outermost job inwards, by the ranks, where `most` parts are kept in all.
-fn read_back(
-    jobs: [Job; MAX_TASKS],
-    count: usize,
-    ranks: &[usize],
-    most: usize,
-) -> [bool; MAX_TASKS]
-    requires count_le_max_tasks { count ≤ max_tasks }
-    requires most_le_count { most ≤ count }
+fn read_back(jobs: &[Job], ranks: &[usize], most: usize) -> [bool; MAX_TASKS]
+    requires count_le_max_tasks { length jobs.now ≤ max_tasks }
+    requires most_le_count { most ≤ length jobs.now }
     requires ranks_len { length ranks.now ≡ max_tasks }
-    requires decided { Decided (λ k. get_or jobs k no_job) count 0 ranks.now }
-    requires most_bound { row_of (jobs_in jobs count) most < huge_ticks }
-    ensures { keeps_in result count ≡ back_of (jobs_in jobs count) most }
+    requires decided { Decided (λ k. get_or jobs.now k no_job) (length jobs.now) 0 ranks.now }
+    requires most_bound { row_of jobs.now most < huge_ticks }
+    ensures { keeps_in result (length jobs.now) ≡ back_of jobs.now most }
 {
     let mut keeps = [false; MAX_TASKS];
     let mut left = most;
-    let mut i: usize = 0;
-    while i < count {
-        let job = jobs[i];
-        let keep = keeps_above(job, ranks[i], left);
+    for (i, job) in jobs.iter().enumerate() {
+        let keep = keeps_above(*job, ranks[i], left);
         keeps[i] = keep;
         if keep {
-            left -= worth(job);
+            left -= worth(*job);
         }
-        i += 1;
     }
     keeps
 }
 
-// The keep list of the jobs that stand outermost first at the first `count` places.
-pub fn choose(jobs: [Job; MAX_TASKS], count: usize) -> Choice
-    requires count_le_max_tasks { count ≤ max_tasks }
-    requires all_bounded { AllBounded jobs count }
-    requires count_value { fits (jobs_in jobs count) (keep_none (jobs_in jobs count)) ≡ true }
-    ensures { ChosenFor chosen (jobs_in jobs count) (keeps_in result.keeps count) result.kept result.discarded }
+// The keep list of jobs that stand outermost first.
+pub fn choose(jobs: &[Job]) -> Choice
+    requires count_le_max_tasks { length jobs.now ≤ max_tasks }
+    requires all_bounded { AllBounded jobs.now }
+    requires count_value { fits jobs.now (keep_none jobs.now) ≡ true }
+    ensures { ChosenFor chosen jobs.now (keeps_in result.keeps (length jobs.now)) result.kept result.discarded }
 {
     let mut row = [0u32; ROW_PLACES];
     let mut ranks = [0usize; MAX_TASKS];
-    let parts = rows_of(jobs, count, &mut row, &mut ranks);
+    let parts = rows_of(jobs, &mut row, &mut ranks);
     let most = parts.most;
-    let keeps = read_back(jobs, count, &ranks, most);
+    let keeps = read_back(jobs, &ranks, most);
     Choice {
         keeps,
         kept: most as u32,

@@ -1,15 +1,13 @@
--- Laws of a column into which a number is put, and of one that is copied.
-use Prim.Native.Nat.{ℕ, suc, ◌+◌, ◌-◌, ◌≤◌, ◌<◌}
+-- Laws of a column into which a number is put, and of a part of one.
+use Prim.Native.Nat.{ℕ, zero, suc, ◌+◌, ◌-◌, ◌≤◌, ◌<◌}
 use mathlib.Core.Path.{◌≡◌, refl, sym, ap, ◌∙◌}
-use mathlib.Core.List.{List, ◌++◌}
+use mathlib.Core.List.{List, ◌∷◌}
 use native.Mathlib.Omega.{arith}
 use native.Mathlib.Decide.{dec_lt, dec_le, ℕ_discrete}
-use lib.ListN.{length, get_or, take, drop, set, length-append, length-drop, length-set, take-append-drop}
-use lib.Seq.{get_or-set_same, get_or-set_other, drop-set-lt}
+use lib.ListN.{length, get_or, take, drop, set, length-set}
+use lib.Seq.{get_or-set_same, get_or-set_other, drop-cons}
 use borrow.Author.Tests.{lt-ltb, le-ltb, le-leb, lt-leb, eq-eqb, ne_eqb}
 use Rattle.base.specs.Places.{places_from}
-use Rattle.base.proofs.PlaceLaws.{from_length}
-use Rattle.base.proofs.Storing.{Stored, stored_start, stored_next}
 use Rattle.columns.specs.Columns.{inserted_at}
 
 module _ (at end number : ℕ) (old : ℕ → ℕ) where
@@ -75,51 +73,16 @@ moved_end old at end number column l m c j =
           ])
     ]
 
-module _ (item : ℕ → ℕ) (first count : ℕ) (old : List ℕ) where
-  -- what the lent column comes to hold from place k on
-  unfoldable pub copy_from : ℕ → List ℕ
-  copy_from k = places_from item (first + k) (count - k) ++ drop count old
+-- the places of a part of a list
+part_from : (list : List ℕ) (first count : ℕ) → first + count ≤ length list → take count (drop first list) ≡ places_from (λ k. get_or list k 0) first count
+unfolding places_from
+part_from list first zero l = refl
+part_from list first (suc count) l =
+    let some : first < length list = omega arith in
+    rw (drop-cons list first 0) (ap (λ (rest : List ℕ). get_or list first 0 ∷ rest) (part_from list (suc first) count (omega arith)))
 
-  -- the first k places of a lent column hold their numbers, and the places beyond all are as they were
-  pub record Copied (k : ℕ) (column : List ℕ) : Type 0 where
-    pub same_length : length column ≡ length old
-    pub stored : Stored (copy_from 0) (copy_from k) k column
-    pub beyond : drop count column ≡ drop count old
-
-  -- at first the column is as it was
-  pub copied_start : count ≤ length old → Copied 0 old
-  unfolding copy_from
-  copied_start h =
-      record {
-        same_length = refl;
-        stored = stored_start (copy_from 0) old
-            (omega (
-              arith,
-              length-append (places_from item (first + 0) (count - 0)) (drop count old),
-              from_length item (first + 0) (count - 0),
-              length-drop count old,
-            ));
-        beyond = refl;
-      }
-
-  -- the next number is put
-  pub copied_next : (k : ℕ) (column : List ℕ) → k < count → Copied k column → Copied (k + 1) (set column k (item (first + k)))
-  unfolding copy_from places_from
-  copied_next k column l c =
-      let step : count - k ≡ suc (count - (k + 1)) = omega arith in
-      let next : suc (first + k) ≡ first + (k + 1) = omega arith in
-      record {
-        same_length = length-set column k (item (first + k)) ∙ c.same_length;
-        stored = stored_next (copy_from 0) (copy_from (k + 1)) k column (item (first + k)) (rw (step, next) at c.stored);
-        beyond = drop-set-lt count column k (item (first + k)) l ∙ c.beyond;
-      }
-
-  -- all are put
-  pub copied_end : (k : ℕ) (column : List ℕ) → k ≡ count → Copied k column → column ≡ places_from item first count ++ drop count old
-  unfolding copy_from places_from
-  copied_end k column e c =
-      let none : count - count ≡ 0 = omega arith in
-      let whole : count - 0 ≡ count = omega arith in
-      let start : first + 0 ≡ first = omega arith in
-      let joined : take count column ++ drop count old ≡ places_from item first count ++ drop count old = rw (e, none, whole, start) at c.stored.joined in
-      sym (take-append-drop count column) ∙ (ap (λ (rest : List ℕ). take count column ++ rest) c.beyond ∙ joined)
+pub part_places : (list : List ℕ) (first count : ℕ) → first + count ≤ length list
+    → take (first + count - first) (drop first list) ≡ places_from (λ k. get_or list k 0) first count
+part_places list first count l =
+    let size : first + count - first ≡ count = omega arith in
+    rw size (part_from list first count l)

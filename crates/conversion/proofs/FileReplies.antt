@@ -1,45 +1,31 @@
 -- The replies of making a file from a text, and what the lent list holds: of plain tables, and of weighted ones.
 use Prim.Native.Nat.{ℕ, ◌≤◌}
-use mathlib.Core.Path.{◌≡◌, ◌∙◌}
+use mathlib.Core.Path.{◌≡◌}
 use mathlib.Core.List.{List}
 use native.Mathlib.Omega.{arith}
-use lib.Dec.{ltb, eqb}
+use lib.Dec.{ltb}
 use lib.ListN.{length}
-use borrow.Author.Tests.{ne_eqb, ltb-false}
+use borrow.Author.Tests.{ltb-false}
 use Rattle.base.specs.Lent.{content_after, written_front}
 use Rattle.base.proofs.TestLaws.{pick_cases}
 use Rattle.base.specs.Limits.{bad_period}
 use Rattle.bits.specs.Bits.{Bytes}
-use Rattle.table.specs.declared.Answer.{Answer}
+use Rattle.std.specs.Prelude.{Ok}
+use Rattle.table.specs.Answers.{Answer, is_accepted, wrote, Accepted}
+use Rattle.table.specs.declared.Table.{Table}
+use Rattle.weighted_file.specs.declared.Weighted.{Weighted}
 use Rattle.table.specs.declared.Written.{Written}
-use Rattle.table.specs.Answers.{is_accepted, wrote}
 use Rattle.table.specs.Layout.{file_length, bad_count}
 use Rattle.table.specs.Kinds.{table_windows_answer}
 use Rattle.table.specs.Writing.{first_too_wide, rows_reply, write_reply}
 use Rattle.table.specs.Reading.{table_in, read_answer}
-use Rattle.table.specs.declared.Answer.TheVariants.{Accepted}
 use Rattle.table.proofs.RoundTrip.{read_writes, read_over}
 use Rattle.weighted_file.specs.Weights.{weighted_length, weighted_in, weighted_rules, weighted_answer, weighted_write_reply, weighted_written_over}
 use Rattle.weighted_file.proofs.WeightLaws as weights
-use Rattle.table_text.specs.TableText.{parse_reply, right_table, text_of_table}
-use Rattle.table_text.specs.WeightedText.{weighted_parse_reply, right_weighted, weighted_text}
+use Rattle.table_text.specs.TableText.{parse_reply, text_of_table}
+use Rattle.table_text.specs.WeightedText.{weighted_parse_reply, weighted_text}
 use Rattle.table_text.proofs.TextRoundTrip.{file_text_lem, weighted_text_lem}
 use Rattle.table_text.specs.Conversions.{made_reply, made_over, file_reply, file_over, weighted_file_reply, weighted_file_over}
-
--- What is found in a text, of whatever form: its first wrong line, the numbers due there, and what writing it replies and leaves.
-module _ {Found : Type 0} (line due : Found → ℕ) (reply : Found → Written) (over : Found → List ℕ) (out : List ℕ) (found right : Found) (found-is : found ≡ right)
-    (written : Written) where
-  -- a text with a wrong line
-  pub made_wrong : (line found ≡ 0 → ⊥) → written ≡ wrote 0
-      → (record { line = line found; due = due found; written = written } ≡ made_reply (line right) (due right) (reply right))
-      × (out ≡ made_over (line right) (over right) out)
-  made_wrong z w = (rw (← found-is, ne_eqb (line found) 0 z, w), rw (← found-is, ne_eqb (line found) 0 z))
-
-  -- a text with none: what writing replies and leaves
-  pub made_right : (new : List ℕ) → line found ≡ 0 → written ≡ reply found → new ≡ over found
-      → (record { line = line found; due = due found; written = written } ≡ made_reply (line right) (due right) (reply right))
-      × (new ≡ made_over (line right) (over right) out)
-  made_right new z w c = (rw (← found-is, z, w), c ∙ rw (← found-is, z))
 
 -- a reply of writing reports at most as many bytes as there was room for
 rows_fit : (count p q wide : ℕ) (rules : Answer) (needed room : ℕ) → (rows_reply count p q wide rules needed room).bytes ≤ room
@@ -55,40 +41,30 @@ rows_fit count p q wide rules needed room =
     (λ e. pick_cases (λ (r : Written). r.bytes ≤ room) (ltb room needed) (λ f. omega arith) (λ f. omega (arith, ltb-false room needed f)))
     (λ e. omega arith))))
 
--- and so does the reply on a text
-made_fits : (line due : ℕ) (written : Written) (room : ℕ) → written.bytes ≤ room → (made_reply line due written).written.bytes ≤ room
-made_fits line due written room h = pick_cases (λ (r : Written). r.bytes ≤ room) (eqb line 0) (λ a. h) (λ a. omega arith)
+-- and so do writing's replies of a table and of a weighted one
+pub file_fits : (t : Table) (room : ℕ) → (write_reply t room).bytes ≤ room
+unfolding write_reply
+file_fits t room = rows_fit t.count t.p t.q (first_too_wide t) (table_windows_answer t) (file_length t.count) room
 
-pub file_fits : (text : List ℕ) (room : ℕ) → (file_reply text room).written.bytes ≤ room
-unfolding file_reply write_reply
-file_fits text room =
-    let p = parse_reply text in
-    let t = p.table in
-    made_fits p.line p.due (write_reply t room) room
-    (rows_fit t.count t.p t.q (first_too_wide t) (table_windows_answer t) (file_length t.count) room)
-
-pub weighted_fits : (text : List ℕ) (room : ℕ) → (weighted_file_reply text room).written.bytes ≤ room
-unfolding weighted_file_reply weighted_write_reply
-weighted_fits text room =
-    let p = weighted_parse_reply text in
-    let w = p.weighted in
-    made_fits p.line p.due (weighted_write_reply w room) room
-    (rows_fit w.table.count w.table.p w.table.q (first_too_wide w.table) (weighted_rules w) (weighted_length w.table.count) room)
+pub weighted_fits : (w : Weighted) (room : ℕ) → (weighted_write_reply w room).bytes ≤ room
+unfolding weighted_write_reply
+weighted_fits w room =
+    rows_fit w.table.count w.table.p w.table.q (first_too_wide w.table) (weighted_rules w) (weighted_length w.table.count) room
 
 -- A file, shown as text and made again from it, is the file that it was.
 pub file_again : (s out : List ℕ) → Bytes s → read_answer s ≡ Accepted → length s ≤ length out
-    → (file_reply (text_of_table (table_in s)) (length out) ≡ record { line = 0; due = 0; written = wrote (length s) })
+    → (file_reply (text_of_table (table_in s)) (length out) ≡ Ok (wrote (length s)))
     × (file_over (text_of_table (table_in s)) out ≡ written_front s out)
-unfolding file_reply file_over
+unfolding file_reply file_over made_reply made_over
 file_again s out bytes e room =
-    let table : parse_reply (text_of_table (table_in s)) ≡ right_table (table_in s) = file_text_lem s e in
+    let table : parse_reply (text_of_table (table_in s)) ≡ Ok (table_in s) = file_text_lem s e in
     (rw (table, read_writes s (length out) e room), rw (table, read_over s out bytes e room))
 
 -- The same of a weighted file.
 pub weighted_again : (s out : List ℕ) → Bytes s → weighted_answer s ≡ Accepted → length s ≤ length out
-    → (weighted_file_reply (weighted_text (weighted_in s)) (length out) ≡ record { line = 0; due = 0; written = wrote (length s) })
+    → (weighted_file_reply (weighted_text (weighted_in s)) (length out) ≡ Ok (wrote (length s)))
     × (weighted_file_over (weighted_text (weighted_in s)) out ≡ written_front s out)
-unfolding weighted_file_reply weighted_file_over weighted_written_over content_after
+unfolding weighted_file_reply weighted_file_over made_reply made_over weighted_written_over content_after
 weighted_again s out bytes e room =
-    let table : weighted_parse_reply (weighted_text (weighted_in s)) ≡ right_weighted (weighted_in s) = weighted_text_lem s e in
+    let table : weighted_parse_reply (weighted_text (weighted_in s)) ≡ Ok (weighted_in s) = weighted_text_lem s e in
     (rw (table, weights.read_writes s (length out) e room), rw (table, weights.read_writes s (length out) e room, weights.read_again s bytes e))

@@ -10,6 +10,7 @@ use native.Mathlib.Omega.{arith}
 use lib.ListN.{length, take, drop}
 use lib.Seq.{take_all, length-take-le}
 use borrow.Author.Tests.{lt-ltb, le-ltb, ltb-false, eqb-false}
+use Rattle.std.specs.Prelude.{Result, Ok, Err, IfOk}
 use Rattle.base.specs.Limits.{max_tasks}
 use Rattle.base.specs.Lent.{content_after}
 use Rattle.base.proofs.TestLaws.{cases, both_absurd}
@@ -17,15 +18,15 @@ use Rattle.base.proofs.ListLaws.{front_taken}
 use Rattle.bits.specs.Bits.{Bytes}
 use Rattle.lines.specs.Putting.{Put}
 use Rattle.lines.proofs.PutLaws.{put_front}
-use Rattle.table.specs.declared.Answer.{Answer}
+use Rattle.table.specs.Answers.{Answer, Accepted, number_of, place_of, is_accepted, answered, answer_of, declined, wrote, written_of}
+use Rattle.table.specs.declared.Refusal.{Refusal}
+use Rattle.table.specs.declared.WriteRefusal.TheVariants.{Rule, Room}
 use Rattle.table.specs.declared.Written.{Written}
-use Rattle.table.specs.declared.Answer.TheVariants.{Accepted}
 use Rattle.table.specs.Layout.{max_file, FirstOf, FirstOfFile}
-use Rattle.table.proofs.AnswerLaws.{refused_number, accepted_is}
+use Rattle.table.proofs.AnswerLaws.{refused_number, refused_write, accepted_is}
 use Rattle.table.proofs.FileLaws.{legal_count}
 use Rattle.table.proofs.RoundTrip.{read_legal}
 use Rattle.table.proofs.PrefixLaws as plain
-use Rattle.table.specs.Answers.{number_of, place_of, is_accepted, declined, wrote}
 use Rattle.table.specs.Reading.{table_in, read_answer}
 use Rattle.weighted_file.specs.declared.Weighted.{Weighted}
 use Rattle.weighted_file.specs.Weights.{max_weighted_file, weighted_bytes_read, weighted_row, weighted_in, weighted_answer}
@@ -49,7 +50,7 @@ use Rattle.table_text.specs.Conversions.{
   ShowsWeighted,
   WeightedRestores,
 }
-use Rattle.conversion.specs.Showing.{shown_row, shown_text}
+use Rattle.conversion.specs.Showing.{shown_row, shown_text, read_text}
 
 -- Of an answer of reading and the text of what was read.
 module _ (bound : ℕ) (answer : Answer) (text : List ℕ) where
@@ -89,6 +90,46 @@ module _ (bound : ℕ) (answer : Answer) (text : List ℕ) where
       cases (is_accepted answer)
       (λ a. rw a (cases (ltb room bound) (λ l. rw l (λ z. absurd (omega arith))) (λ l. rw l (λ z. (accepted_is answer a, refl)))))
       (λ a. rw a (λ z. absurd (eqb-false (number_of answer) 0 (refused_number answer a) z)))
+
+-- Of what a call that reads returns, and a lent list.
+module _ (bound width : ℕ) (read : Result Weighted Refusal) (out : List ℕ) where
+  -- the reply, and what the list holds then
+  abbrev pub Shown : Written → List ℕ → Type 0
+  Shown reply new =
+      (reply ≡ shown_reply bound (answer_of read) (read_text width read) (length out))
+      × (new ≡ shown_over bound (answer_of read) (read_text width read) out)
+
+  -- what reading refuses
+  pub refusal_shown : (refusal : Refusal) → read ≡ Err refusal → Shown (written_of (Err (Rule refusal))) out
+  refusal_shown refusal e =
+      let reply = text_refused bound (Err refusal) (read_text width (Err refusal)) (length out) refl in
+      rw e (reply, text_kept bound (Err refusal) (read_text width (Err refusal)) out _ reply (refused_write (Rule refusal)))
+
+  -- 9
+  pub short_shown : (w : Weighted) → read ≡ Ok w → length out < bound → Shown (written_of (Err Room)) out
+  short_shown w e l =
+      let reply = text_short bound Accepted (read_text width (Ok w)) (length out) refl l in
+      rw e (reply, text_kept bound Accepted (read_text width (Ok w)) out _ reply refl)
+
+  -- the text
+  pub put_shown : (w : Weighted) (next : ℕ) (new : List ℕ) → read ≡ Ok w → bound ≤ length out → Put (shown_text width w) 0 out next new
+      → Shown (written_of (Ok next)) new
+  unfolding read_text
+  put_shown w next new e l put =
+      rw e (text_put bound Accepted (shown_text width w) out next new (wrote next) (text_shown bound Accepted (shown_text width w) (length out) refl l) put refl)
+
+-- A call that returns a weighted table by its answer: that table has few tasks where nothing is refused,
+pub result_few : (answer : Answer) (w : Weighted) (read : Result Weighted Refusal) → read ≡ answered answer w
+    → (answer ≡ Accepted → w.table.count ≤ max_tasks) → IfOk read (λ found. found.table.count ≤ max_tasks)
+result_few (Ok accepted) w read e few = rw e (few refl)
+result_few (Err refusal) w read e few = rw e tt
+
+-- and what it returns tells the answer, and the text where nothing is refused.
+pub result_shown : (width : ℕ) (answer : Answer) (w : Weighted) (read : Result Weighted Refusal) → read ≡ answered answer w
+    → (answer_of read ≡ answer) × (answer ≡ Accepted → read_text width read ≡ shown_text width w)
+unfolding read_text
+result_shown width (Ok accepted) w read e = rw e (refl, λ a. refl)
+result_shown width (Err refusal) w read e = rw e (refl, λ a. cc)
 
 -- Only the text of what was accepted counts.
 pub text_same : (bound : ℕ) (a b : Answer) (s t out : List ℕ) → a ≡ b → (b ≡ Accepted → s ≡ t)

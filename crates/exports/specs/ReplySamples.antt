@@ -1,11 +1,10 @@
 -- Samples of the replies as C gets them: of reading, of the check and of the queries for one run. What is expected is written in plain numbers.
-use Rattle.std.specs.Prelude.{ℕ, true, false, List, [], ◌∷◌, ◌++◌}
+use Rattle.std.specs.Prelude.{ℕ, true, false, List, [], ◌∷◌, ◌++◌, Some, None, Ok, Err}
 use Rattle.table.specs.TableSamples.{table, p4_table, p4_file}
-use Rattle.schedule.specs.declared.RunsAnswer.{RunsAnswer}
-use Rattle.schedule.specs.declared.RunsAnswer.TheVariants as checked
-use Rattle.schedule.specs.declared.Found.{Found}
-use Rattle.schedule.specs.declared.Found.TheVariants as found
+use Rattle.schedule.specs.declared.RunsRefusal.TheVariants.{TooMany, OutOfOrder}
 use Rattle.schedule.specs.Runs.{run_of}
+use Rattle.schedule.specs.RunCheck.{RunsChecked, Accepted}
+use Rattle.schedule.specs.Queries.{Found}
 use Rattle.exports.specs.declared.TableRead.{TableRead}
 use Rattle.exports.specs.declared.Checked.{Checked}
 use Rattle.exports.specs.declared.FoundRun.{FoundRun}
@@ -29,15 +28,15 @@ read_samples =
 
 -- The check: what it answers, and the reply.
 pub record CheckSample : Type 0 where
-  pub answer : RunsAnswer
+  pub answer : RunsChecked
   pub reply : Checked
 
 -- each case of the check's answer
 unfoldable pub check_samples : List CheckSample
 check_samples =
-    record { answer = checked.Accepted; reply = record { number = 0; place = 0 } }
-    ∷ record { answer = checked.TooMany; reply = record { number = 13; place = 0 } }
-    ∷ record { answer = checked.OutOfOrder 2; reply = record { number = 15; place = 2 } }
+    record { answer = Accepted; reply = record { number = 0; place = 0 } }
+    ∷ record { answer = Err TooMany; reply = record { number = 13; place = 0 } }
+    ∷ record { answer = Err (OutOfOrder 2); reply = record { number = 15; place = 2 } }
     ∷ []
 
 -- A query for one run: what it answers, and the reply.
@@ -48,8 +47,8 @@ pub record FoundSample : Type 0 where
 -- each case of a query's answer
 unfoldable pub found_samples : List FoundSample
 found_samples =
-    record { answer = found.One (run_of 8 10 1); reply = record { number = 0; place = 0; found = true; run = run_of 8 10 1 } }
-    ∷ record { answer = found.None; reply = record { number = 0; place = 0; found = false; run = run_of 0 0 0 } }
-    ∷ record { answer = found.TooMany; reply = record { number = 13; place = 0; found = false; run = run_of 0 0 0 } }
-    ∷ record { answer = found.OutOfOrder 2; reply = record { number = 15; place = 2; found = false; run = run_of 0 0 0 } }
+    record { answer = Ok (Some (run_of 8 10 1)); reply = record { number = 0; place = 0; found = true; run = run_of 8 10 1 } }
+    ∷ record { answer = Ok None; reply = record { number = 0; place = 0; found = false; run = run_of 0 0 0 } }
+    ∷ record { answer = Err TooMany; reply = record { number = 13; place = 0; found = false; run = run_of 0 0 0 } }
+    ∷ record { answer = Err (OutOfOrder 2); reply = record { number = 15; place = 2; found = false; run = run_of 0 0 0 } }
     ∷ []

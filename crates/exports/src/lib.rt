@@ -10,16 +10,14 @@ ghost use Rattle.schedule.specs.Judging.{judge_reply};
 ghost use Rattle.schedule.specs.BusyCount.{busy_reply};
 ghost use Rattle.schedule.specs.RunCheck.{check_answer};
 ghost use Rattle.schedule.specs.Queries.{run_at_tick, run_from_tick, stretch_of};
-ghost use Rattle.records.specs.RecordColumns.{LegalColumns, copied_runs};
 ghost use Rattle.plans.specs.Planning.{lent_before, lent_after, plan_reply, lists_left};
 ghost use Rattle.weighted_file.specs.Weights.{weighted_read, weighted_write_reply, weighted_written_over};
 ghost use Rattle.exports.specs.FileRead.{read_in_c, weighted_read_in_c};
 ghost use Rattle.exports.specs.QueryReplies.{checked_reply, found_reply};
 
 use plans::Planned;
-use records::RunColumns;
-use schedule::{Busy, Found, Judged, Run, Stretch};
-use table::{Answer, Table, Written};
+use schedule::{Busy, Judged, NO_RUN, Run, RunsRefusal, Stretch};
+use table::{Table, Written};
 use weighted_file::Weighted;
 
 // The reply of reading: the answer's number and place, and the table, which is 0 throughout on a refusal.
@@ -58,28 +56,22 @@ pub struct FoundRun {
     pub run: Run,
 }
 
-// Reading, as `reading::read` has it: the table is put straight into this reply, and not first into that one.
+// Reading, as `reading::read` has it: the table is put straight into this reply, and not first into a result.
 #[unsafe(no_mangle)]
 pub extern "C" fn planner_read(file: &[u8]) -> TableRead
     ensures { result ≡ read_in_c file.now }
 {
-    let answer = reading::answer(file);
-    let number = answer.number();
-    let place = answer.place();
-    let Answer::Accepted = answer else {
-        let table = Table::none();
-        return TableRead {
-            number,
-            place,
-            table,
-        };
-    };
-    let header = reading::take_header(file);
-    let table = reading::table_in(file, header);
-    TableRead {
-        number,
-        place,
-        table,
+    match reading::answer(file) {
+        Ok(header) => TableRead {
+            number: 0,
+            place: 0,
+            table: reading::table_in(file, header),
+        },
+        Err(refused) => TableRead {
+            number: refused.number(),
+            place: refused.place(),
+            table: Table::none(),
+        },
     }
 }
 
@@ -123,7 +115,7 @@ pub extern "C" fn planner_plan(
 pub extern "C" fn planner_judge(file: &[u8], launch: u32, marks: &[u8], runs: &[Run]) -> Judged
     ensures { result ≡ judge_reply launch (plain_read file.now) marks.now runs.now }
 {
-    judging::judge_records(reading::read(file), launch, marks, runs)
+    judging::judge(file, launch, marks, runs)
 }
 
 // Reading a weighted table.
@@ -131,13 +123,17 @@ pub extern "C" fn planner_judge(file: &[u8], launch: u32, marks: &[u8], runs: &[
 pub extern "C" fn planner_weighted_read(file: &[u8]) -> WeightedTableRead
     ensures { result ≡ weighted_read_in_c file.now }
 {
-    let read = weighted_reading::read(file);
-    let answer = read.answer;
-    let table = read.weighted;
-    WeightedTableRead {
-        number: answer.number(),
-        place: answer.place(),
-        table,
+    match weighted_reading::read(file) {
+        Ok(table) => WeightedTableRead {
+            number: 0,
+            place: 0,
+            table,
+        },
+        Err(refusal) => WeightedTableRead {
+            number: refusal.number(),
+            place: refusal.place(),
+            table: Weighted::none(),
+        },
     }
 }
 
@@ -177,7 +173,7 @@ pub extern "C" fn planner_weighted_judge(
 ) -> Judged
     ensures { result ≡ judge_reply launch (weighted_read file.now) marks.now runs.now }
 {
-    judging::judge_records(weighted_reading::read_table(file), launch, marks, runs)
+    weighted_judging::judge(file, launch, marks, runs)
 }
 
 // The busy count of the interval from a to b.
@@ -185,48 +181,27 @@ pub extern "C" fn planner_weighted_judge(
 pub extern "C" fn planner_busy(runs: &[Run], a: u32, b: u32) -> Busy
     ensures { result ≡ busy_reply runs.now a b }
 {
-    busy::busy_copied(records::columns_of(runs), a, b)
-}
-
-// The reply of the check, of runs that were copied into columns.
-fn checked_copied(columns: RunColumns) -> Checked
-    requires { LegalColumns columns }
-    ensures { result ≡ checked_reply (check_answer (copied_runs columns)) }
-{
-    let answer = queries::check_copied(columns);
-    Checked {
-        number: answer.number(),
-        place: answer.place(),
-    }
+    busy::busy(runs, a, b)
 }
 
 // The answer of a query for one run, as C gets it.
-fn found_reply(answer: Found) -> FoundRun
+fn found_reply(answer: Result<Option<Run>, RunsRefusal>) -> FoundRun
     ensures { result ≡ found_reply answer }
 {
-    let run = answer.run();
-    FoundRun {
-        number: answer.number(),
-        place: answer.place(),
-        found: answer.is_one(),
-        run,
+    match answer {
+        Ok(run) => FoundRun {
+            number: 0,
+            place: 0,
+            found: run.is_some(),
+            run: run.unwrap_or(NO_RUN),
+        },
+        Err(refusal) => FoundRun {
+            number: refusal.number(),
+            place: refusal.place(),
+            found: false,
+            run: NO_RUN,
+        },
     }
-}
-
-// The reply of the query for a tick, of runs that were copied into columns.
-fn found_at_copied(columns: RunColumns, tick: u32) -> FoundRun
-    requires { LegalColumns columns }
-    ensures { result ≡ found_reply (run_at_tick (copied_runs columns) tick) }
-{
-    found_reply(queries::run_at_copied(columns, tick))
-}
-
-// The reply of the query from a tick on, of runs that were copied into columns.
-fn found_from_copied(columns: RunColumns, tick: u32) -> FoundRun
-    requires { LegalColumns columns }
-    ensures { result ≡ found_reply (run_from_tick (copied_runs columns) tick) }
-{
-    found_reply(queries::run_from_copied(columns, tick))
 }
 
 // What the busy count and the queries refuse of a run list.
@@ -234,7 +209,16 @@ fn found_from_copied(columns: RunColumns, tick: u32) -> FoundRun
 pub extern "C" fn planner_check_runs(runs: &[Run]) -> Checked
     ensures { result ≡ checked_reply (check_answer runs.now) }
 {
-    checked_copied(records::columns_of(runs))
+    match queries::check(runs) {
+        Ok(()) => Checked {
+            number: 0,
+            place: 0,
+        },
+        Err(refusal) => Checked {
+            number: refusal.number(),
+            place: refusal.place(),
+        },
+    }
 }
 
 // The run that holds a tick.
@@ -242,7 +226,7 @@ pub extern "C" fn planner_check_runs(runs: &[Run]) -> Checked
 pub extern "C" fn planner_run_at(runs: &[Run], tick: u32) -> FoundRun
     ensures { result ≡ found_reply (run_at_tick runs.now tick) }
 {
-    found_at_copied(records::columns_of(runs), tick)
+    found_reply(queries::run_at(runs, tick))
 }
 
 // The first run that starts at a tick or after it.
@@ -250,7 +234,7 @@ pub extern "C" fn planner_run_at(runs: &[Run], tick: u32) -> FoundRun
 pub extern "C" fn planner_run_from(runs: &[Run], tick: u32) -> FoundRun
     ensures { result ≡ found_reply (run_from_tick runs.now tick) }
 {
-    found_from_copied(records::columns_of(runs), tick)
+    found_reply(queries::run_from(runs, tick))
 }
 
 // Where the runs stand that share a tick with the interval from a to b.
@@ -258,5 +242,5 @@ pub extern "C" fn planner_run_from(runs: &[Run], tick: u32) -> FoundRun
 pub extern "C" fn planner_runs_touching(runs: &[Run], a: u32, b: u32) -> Stretch
     ensures { result ≡ stretch_of runs.now a b }
 {
-    queries::stretch_copied(records::columns_of(runs), a, b)
+    queries::stretch(runs, a, b)
 }

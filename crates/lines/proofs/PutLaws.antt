@@ -1,12 +1,13 @@
 -- Laws of texts that are put into a list.
-use Prim.Native.Nat.{ℕ, suc, ◌+◌, ◌≤◌, ◌<◌}
+use Prim.Native.Nat.{ℕ, suc, ◌+◌, ◌-◌, ◌≤◌, ◌<◌}
 use mathlib.Core.Path.{◌≡◌, refl, sym, ap, ◌∙◌}
 use mathlib.Core.List.{List, [], ◌∷◌, ◌++◌, append_assoc, append-nil}
 use native.Mathlib.Nat.{add-zero, zero-add}
 use native.Mathlib.Numerals.{add-one}
 use native.Mathlib.Omega.{arith}
-use lib.ListN.{length, get_or, take, drop, set, length-append, length-drop, length-set, take-append-drop}
-use lib.Seq.{length-take-le, take_at, drop-append-add, drop-drop, set_split, append_snoc, paste, paste-zero, paste-suc, take-length}
+use lib.ListN.{length, take, drop, set, length-append, length-drop, take-append-drop}
+use borrow.Rule.Slice.PartMut.{put_mid, Post-is}
+use lib.Seq.{length-take-le, take_at, drop-append-add, drop-drop, set_split, append_snoc}
 use Rattle.base.specs.Lent.{written_front}
 use Rattle.lines.specs.Putting.{spliced, Put}
 
@@ -77,32 +78,16 @@ pub put_front : (text old : List ℕ) (next : ℕ) (new : List ℕ) → Put text
 unfolding spliced
 put_front text old next new p = (omega (arith, p.next_is), p.content ∙ rw (zero-add (length text)))
 
--- A word that is copied byte by byte: its first i bytes are put.
-pub record Copied (word : List ℕ) (at : ℕ) (old : List ℕ) (i : ℕ) (new : List ℕ) : Type 0 where
-  pub within : i ≤ length word
-  pub same_length : length new ≡ length old
-  pub pasted : new ≡ paste old at word i
-
--- none is put
-pub copied_start : (word : List ℕ) (at : ℕ) (old : List ℕ) → Copied word at old 0 old
-copied_start word at old = record { within = omega arith; same_length = refl; pasted = paste-zero old at word }
-
--- the next is put
-pub copied_next : (word : List ℕ) (at : ℕ) (old : List ℕ) (i : ℕ) (new : List ℕ) → i < length word → at + length word ≤ length old → Copied word at old i new
-    → Copied word at old (i + 1) (set new (at + i) (get_or word i 0))
-copied_next word at old i new h room c =
-    record {
-      within = omega arith;
-      same_length = length-set new (at + i) (get_or word i 0) ∙ c.same_length;
-      pasted = rw (c.pasted, add-one i) (paste-suc old at word i 0 (omega arith) h);
-    }
-
--- all are put
-pub copied_end : (word : List ℕ) (at : ℕ) (old : List ℕ) (i : ℕ) (new : List ℕ) → length word ≤ i → Copied word at old i new → Put word at old (at + length word) new
+-- a word that is copied into its part of the list
+pub put_part : (word : List ℕ) (at : ℕ) (old part : List ℕ) → part ≡ word
+    → Put word at old (at + length word) (put_mid at (at + length word - at) old part)
 unfolding spliced
-copied_end word at old i new h c =
-    let e : i ≡ length word = omega (arith, c.within) in
-    record { next_is = refl; content = c.pasted ∙ rw (e, take-length word) }
+put_part word at old part e =
+    let room : at ≤ at + length word = omega arith in
+    record {
+      next_is = refl;
+      content = rw (e, Post-is at (at + length word) old room) (sym (append_assoc (take at old) word (drop (at + length word) old)));
+    }
 
 -- A text that is put part by part: what is put so far, and what is left of it.
 pub record Putting (whole : List ℕ) (at : ℕ) (old left : List ℕ) (next : ℕ) (new : List ℕ) : Type 0 where

@@ -1,2 +1,1 @@
-pub mod ShiftLaws
 pub mod MoveLaws

@@ -1,4 +1,4 @@
--- The runs of jobs that stand in an array, filled in from the last job to the first.
+-- The runs of jobs that stand at the places of a list, filled in from the last job to the first.
 use Prim.Native.Nat.{ℕ, zero, suc, ◌+◌, ◌-◌, ◌*◌, ◌≤◌, ◌<◌}
 use mathlib.Core.Path.{◌≡◌, refl, sym, ap, ◌∙◌}
 use mathlib.Core.List.{List, [], ◌∷◌, reverse}
@@ -14,6 +14,8 @@ use Rattle.schedule.specs.Jobs.{work_with}
 use Rattle.schedule.specs.JobArrays.{no_job}
 use Rattle.base.specs.Members.{All}
 use Rattle.choice.specs.Choice.{works_fit, works_of, fits}
+use Rattle.choice.proofs.FitLaws.{fits_length}
+use Rattle.choice.proofs.JobLists.{places_whole, places_all}
 use Rattle.placement.specs.Chains.{Chain}
 use Rattle.placement.specs.Placing.{works_placed, latest_first, outermost_deadline, works_runs, runs_placed}
 use Rattle.placement.specs.GapFilling.{fill, works_filled}
@@ -101,3 +103,14 @@ module _ (jobs : List Job) (keeps : List Bool) (count : ℕ) where
       → runs_down at first end ≡ runs_from jobs work_at count 0
       → places_from at first (end - first) ≡ runs_placed (first_places no_job jobs count) (first_places false keeps count)
   held_placed at first end c f e = rw works-are (held_works jobs work_at count at first end c (rw works-are at f) e)
+
+-- The same of lists of jobs and of marks.
+pub held_lists : (jobs : List Job) (keeps : List Bool) (at : ℕ → Run) (first end : ℕ) → Chain jobs → fits jobs keeps ≡ true
+    → runs_down at first end ≡ runs_from jobs (work_at jobs keeps (length jobs)) (length jobs) 0
+    → places_from at first (end - first) ≡ runs_placed jobs keeps
+held_lists jobs keeps at first end c f e =
+    let all = places_whole no_job jobs in
+    let marks = places_all false keeps (length jobs) (fits_length jobs keeps f) in
+    let fit : fits (first_places no_job jobs (length jobs)) (first_places false keeps (length jobs)) ≡ true = rw (all, marks) f in
+    let chain : Chain (first_places no_job jobs (length jobs)) = rw all c in
+    held_placed jobs keeps (length jobs) at first end chain fit e ∙ rw (all, marks)

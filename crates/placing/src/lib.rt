@@ -5,8 +5,7 @@
 ghost use Rattle.std.specs.Prelude.{◌≡◌, true, ◌+◌, ◌-◌, ◌≤◌, ◌<◌, min, length};
 ghost use Rattle.base.specs.Limits.{max_tasks, max_plan_runs};
 ghost use Rattle.schedule.specs.Jobs.{work_with};
-ghost use Rattle.schedule.specs.JobArrays.{Bounded, jobs_in, AllBounded};
-ghost use Rattle.choice.specs.KeepLists.{keeps_in};
+ghost use Rattle.schedule.specs.JobArrays.{Bounded, AllBounded};
 ghost use Rattle.choice.specs.Choice.{fits};
 ghost use Rattle.placement.specs.Chains.{Chain};
 ghost use Rattle.placement.specs.Placing.{runs_placed};
@@ -42,20 +41,17 @@ pub fn work_with(job: Job, keep: bool) -> u32
     ensures { result ≡ work_with job keep }
 {
     if keep {
-        return job.mandatory + job.optional;
+        job.mandatory + job.optional
+    } else {
+        job.mandatory
     }
-    job.mandatory
 }
 
 // How many of `work` ticks go into the gap from `bottom`, included, to `top`, excluded: as many as it holds. A gap may be empty or reversed.
 fn gap_ticks(bottom: u32, top: u32, work: u32) -> u32
     ensures { result ≡ min work (top - bottom) }
 {
-    if top <= bottom {
-        return 0;
-    }
-    let room = top - bottom;
-    if work < room { work } else { room }
+    work.min(top.saturating_sub(bottom))
 }
 
 // The run of a task that has the last n ticks below `top`, put in at place `at` of columns whose runs end at place `end`.
@@ -96,22 +92,20 @@ fn fill_gaps(
     ensures { FilledAbove span job work (places_before starts ends tasks) result.end result.left (places_after starts ends tasks) }
 {
     let mut end = span.end;
-    let mut k = span.end;
     let mut top = job.deadline;
     let mut left = work;
-    while span.closed < k {
+    for k in (span.closed..span.end).rev() {
         if left == 0 {
             return GapsFilled { end, left };
         }
-        let bottom = ends[k - 1];
+        let bottom = ends[k];
         let n = gap_ticks(bottom, top, left);
         if 0 < n {
-            insert_run(starts, ends, tasks, k, end, top, n, job.position);
+            insert_run(starts, ends, tasks, k + 1, end, top, n, job.position);
             end += 1;
         }
-        top = starts[k - 1];
+        top = starts[k];
         left -= n;
-        k -= 1;
     }
     GapsFilled { end, left }
 }
@@ -159,31 +153,28 @@ fn fill_job(
     }
 }
 
-// The runs of the jobs that stand outermost first at the first `count` places, under their keep list, put by start into three lent columns;
-// what stands beyond them is kept. The number of runs is returned.
+// The runs of jobs that stand outermost first, under their keep list, put by start into three lent columns; what stands beyond them is kept. The number of
+// runs is returned.
 pub fn place(
-    jobs: [Job; MAX_TASKS],
-    count: usize,
-    keeps: [bool; MAX_TASKS],
+    jobs: &[Job],
+    keeps: &[bool],
     starts: &mut [u32],
     ends: &mut [u32],
     tasks: &mut [u32],
 ) -> usize
-    requires count_le_max_tasks { count ≤ max_tasks }
-    requires all_bounded { AllBounded jobs count }
-    requires chain { Chain (jobs_in jobs count) }
-    requires count_value { fits (jobs_in jobs count) (keeps_in keeps count) ≡ true }
-    requires runs_room { RunsRoom count starts.old ends.old tasks.old }
-    ensures value { result ≡ length (runs_placed (jobs_in jobs count) (keeps_in keeps count)) }
-    ensures runs_put { RunsPut (runs_placed (jobs_in jobs count) (keeps_in keeps count)) starts ends tasks }
+    requires count_le_max_tasks { length jobs.now ≤ max_tasks }
+    requires all_bounded { AllBounded jobs.now }
+    requires chain { Chain jobs.now }
+    requires keeps_value { fits jobs.now keeps.now ≡ true }
+    requires runs_room { RunsRoom (length jobs.now) starts.old ends.old tasks.old }
+    ensures value { result ≡ length (runs_placed jobs.now keeps.now) }
+    ensures runs_put { RunsPut (runs_placed jobs.now keeps.now) starts ends tasks }
 {
     let mut held_starts = [0u32; COLUMN_PLACES];
     let mut held_ends = [0u32; COLUMN_PLACES];
     let mut held_tasks = [0u32; COLUMN_PLACES];
     let mut span = NO_RUNS;
-    let mut i = count;
-    while 0 < i {
-        i -= 1;
+    for i in (0..jobs.len()).rev() {
         let job = jobs[i];
         let work = work_with(job, keeps[i]);
         span = fill_job(

@@ -6,42 +6,100 @@ ghost use Rattle.std.specs.Prelude.{◌≡◌, true, false, reverse, ℕ, ◌≤
 ghost use Rattle.base.specs.Limits.{max_tasks};
 ghost use Rattle.base.specs.Places.{places};
 ghost use Rattle.base.specs.Lent.{written_front};
-ghost use Rattle.table.specs.Answers.{number_of, place_of};
-ghost use Rattle.table.specs.Kinds.{is_nested};
+ghost use Rattle.table.specs.Answers.{refusal_number, refusal_place};
 ghost use Rattle.table.specs.Reading.{one_each, plain_read, read_reply};
 ghost use Rattle.table.specs.Writing.{Legal};
-ghost use Rattle.schedule.specs.JobArrays.{no_job, jobs_in, AllBounded};
+ghost use Rattle.schedule.specs.JobArrays.{no_job, AllBounded};
 ghost use Rattle.base.specs.Members.{Any};
 ghost use Rattle.base.specs.Arrays.{Distinct};
 ghost use Rattle.placement.specs.Chains.{positions};
 ghost use Rattle.placement.specs.HeldRuns.{RunsRoom, RunsPut};
 ghost use Rattle.choice.specs.KeepLists.{ChosenFor, keeps_in};
 ghost use Rattle.choice.specs.Choice.{keep_none};
-ghost use Rattle.orders.specs.Keys.{KeysHeld};
+ghost use Rattle.orders.specs.Keys.{KindFound};
+ghost use Rattle.ordering.specs.Kinds.{by_nesting};
+ghost use Rattle.planner.specs.declared.PlanRefusal.TheVariants.{File};
+ghost use Rattle.planner.specs.Refusals.{plan_number, plan_place, planned_of, RefusedBy};
 ghost use Rattle.plans.specs.Planning.{exceeding_after, unmet_by, chosen_by, runs_by, too_short, mark_at, plan_declined, plan_made, reply_by, after_by};
-ghost use Rattle.plans.specs.PlanParts.{fits_by, written_with, refused_by};
+ghost use Rattle.plans.specs.PlanParts.{fits_by, written_with};
 ghost use Rattle.plans.specs.Planning.{lent, lent_before, lent_after, short_lists, plan_table, plan_reply, lists_after, lists_left};
 ghost use Rattle.plans.specs.Launch.{EarlierAtZero, LaterByLaunch};
 ghost use Rattle.plans.specs.KindJobs.{HeldJobs};
 ghost use Rattle.plans.specs.Demands.{EightExactly, JudgeAccepts, PlannedOptimal};
 ghost use Rattle.plans.specs.Rules.{PlannedByRules, EightFirst};
 
-use base::MAX_TASKS;
 use choosing::Choice;
+use ordering::{Kind, KindKeys};
 use plans::Planned;
 use schedule::Job;
-use table::{Answer, Table};
+use table::{Refusal, Table};
+
+// Why planning refuses.
+#[derive(Clone, Copy, Debug, PartialEq, Eq)]
+pub enum PlanRefusal {
+    // Reading refuses the file.
+    File(Refusal),
+    // The launch tick is above the limit.
+    Launch,
+    // The mandatory ticks up to and with some task can't be met; the task's position.
+    Unmet(usize),
+    // A lent list is too short.
+    ShortLists,
+}
+
+impl PlanRefusal {
+    // The refusal's number.
+    pub fn number(self) -> u32
+        ensures { result ≡ plan_number self }
+    {
+        match self {
+            PlanRefusal::File(refusal) => refusal.number(),
+            PlanRefusal::Unmet(_) => 8,
+            PlanRefusal::ShortLists => 9,
+            PlanRefusal::Launch => 14,
+        }
+    }
+
+    // The refusal's place, and 0 where it has none.
+    pub fn place(self) -> usize
+        ensures { result ≡ plan_place self }
+    {
+        match self {
+            PlanRefusal::File(refusal) => refusal.place(),
+            PlanRefusal::Unmet(position) => position,
+            PlanRefusal::ShortLists | PlanRefusal::Launch => 0,
+        }
+    }
+}
+
+impl From<Refusal> for PlanRefusal {
+    ghost from_gives = { λ refusal refused. refused ≡ File refusal };
+
+    fn from(refusal: Refusal) -> PlanRefusal {
+        PlanRefusal::File(refusal)
+    }
+}
 
 // The reply of a refusal.
-pub fn declined(number: u32, place: usize) -> Planned
-    ensures { result ≡ plan_declined number place }
+pub fn declined(refusal: PlanRefusal) -> Planned
+    ensures { result ≡ plan_declined (plan_number refusal) (plan_place refusal) }
 {
     Planned {
-        number,
-        place,
+        number: refusal.number(),
+        place: refusal.place(),
         kept: 0,
         discarded: 0,
         runs: 0,
+    }
+}
+
+// The reply of planning by what it comes to: the reply of a plan, or why it refuses.
+pub fn reply(planned: Result<Planned, PlanRefusal>) -> Planned
+    ensures { result ≡ planned_of planned }
+{
+    match planned {
+        Ok(planned) => planned,
+        Err(refusal) => declined(refusal),
     }
 }
 
@@ -58,24 +116,22 @@ fn planned(kept: u32, discarded: u32, runs: usize) -> Planned
     }
 }
 
-// The position of the first job in nest order whose mandatory ticks, with those of all before it, exceed its window, and the count where there
-// is none. The jobs of a nested table stand outermost first at the first `count` places.
-fn first_exceeding(jobs: [Job; MAX_TASKS], count: usize) -> usize
-    requires count_le_max_tasks { count ≤ max_tasks }
-    requires all_bounded { AllBounded jobs count }
-    ensures { result ≡ exceeding_after count 0 (reverse (jobs_in jobs count)) }
+// The position of the first job in nest order whose mandatory ticks, with those of all before it, exceed its window, and the number of jobs where there is
+// none. The jobs of a nested table stand outermost first.
+fn first_exceeding(jobs: &[Job]) -> usize
+    requires count_le_max_tasks { length jobs.now ≤ max_tasks }
+    requires all_bounded { AllBounded jobs.now }
+    ensures { result ≡ exceeding_after (length jobs.now) 0 (reverse jobs.now) }
 {
     let mut sum: u32 = 0;
-    let mut i = count;
-    while 0 < i {
-        i -= 1;
+    for i in (0..jobs.len()).rev() {
         let job = jobs[i];
         sum += job.mandatory;
         if schedule::window_ticks(job) < sum {
             return job.position as usize;
         }
     }
-    count
+    jobs.len()
 }
 
 // A lent list is too short for n tasks: n marks, 2n − 1 runs.
@@ -83,188 +139,170 @@ fn too_short(n: usize, marks: usize, starts: usize, ends: usize, tasks: usize) -
     requires { (0 < n) × (n ≤ max_tasks) }
     ensures { result ≡ too_short n marks starts ends tasks }
 {
-    if marks < n {
-        return true;
-    }
     let runs = 2 * n - 1;
-    if starts < runs {
-        return true;
-    }
-    if ends < runs {
-        return true;
-    }
-    tasks < runs
+    (marks < n) | (starts < runs) | (ends < runs) | (tasks < runs)
 }
 
 // The marks of a keep list, put by position into a lent list; what stands beyond them is kept.
-fn put_marks(jobs: [Job; MAX_TASKS], keeps: [bool; MAX_TASKS], count: usize, marks: &mut [u8])
-    requires count_le_max_tasks { count ≤ max_tasks }
-    requires count_in_bounds { count ≤ length marks.old }
-    requires by_index { (k : ℕ) → k < count → (get_or jobs k no_job).position < count }
-    requires distinct { Distinct (positions (jobs_in jobs count)) }
-    requires by_index_2 { (k : ℕ) → k < count → Any (λ job. job.position ≡ k) (jobs_in jobs count) }
-    ensures { marks.new
-        ≡ written_front (places (mark_at (jobs_in jobs count) (keeps_in keeps count)) count) marks.old }
+fn put_marks(jobs: &[Job], keeps: &[bool], marks: &mut [u8])
+    requires keeps_len { length keeps.now ≡ length jobs.now }
+    requires count_in_bounds { length jobs.now ≤ length marks.old }
+    requires by_index { (k : ℕ) → k < length jobs.now → (get_or jobs.now k no_job).position < length jobs.now }
+    requires distinct { Distinct (positions jobs.now) }
+    requires by_index_2 { (k : ℕ) → k < length jobs.now → Any (λ job. job.position ≡ k) jobs.now }
+    ensures { marks.new ≡ written_front (places (mark_at jobs.now keeps.now) (length jobs.now)) marks.old }
 {
-    let mut i: usize = 0;
-    while i < count {
-        let job = jobs[i];
-        let k = job.position as usize;
-        marks[k] = if keeps[i] { 1 } else { 0 };
-        i += 1;
+    for (i, job) in jobs.iter().enumerate() {
+        marks[job.position as usize] = u8::from(keeps[i]);
     }
 }
 
-// The position of the first job in the order of its kind whose mandatory ticks, with those of the jobs before it, can't be met, and the count where there
-// is none. The jobs stand last first at the first `count` places, here and below.
-fn first_unmet(jobs: [Job; MAX_TASKS], count: usize, nested: bool) -> usize
-    requires { HeldJobs nested jobs count }
-    ensures { result ≡ unmet_by nested count (jobs_in jobs count) }
+// The position of the first job in the order of its kind whose mandatory ticks, with those of the jobs before it, can't be met, and the number of jobs where
+// there is none. The jobs stand last first, here and below.
+fn first_unmet(jobs: &[Job], kind: Kind) -> usize
+    requires { HeldJobs (by_nesting kind) jobs.now }
+    ensures { result ≡ unmet_by (by_nesting kind) (length jobs.now) jobs.now }
 {
-    if nested {
-        return first_exceeding(jobs, count);
+    match kind {
+        Kind::Nested => first_exceeding(jobs),
+        Kind::Similar => sequencing::first_late(jobs),
     }
-    sequencing::first_late(jobs, count)
 }
 
 // The keep list that is taken of jobs whose mandatory parts fit.
-fn choose(jobs: [Job; MAX_TASKS], count: usize, nested: bool) -> Choice
-    requires held_jobs { HeldJobs nested jobs count }
-    requires count_value { fits_by nested (jobs_in jobs count) (keep_none (jobs_in jobs count)) ≡ true }
-    ensures { ChosenFor (chosen_by nested one_each) (jobs_in jobs count) (keeps_in result.keeps count) result.kept result.discarded }
+fn choose(jobs: &[Job], kind: Kind) -> Choice
+    requires held_jobs { HeldJobs (by_nesting kind) jobs.now }
+    requires none_value { fits_by (by_nesting kind) jobs.now (keep_none jobs.now) ≡ true }
+    ensures { ChosenFor (chosen_by (by_nesting kind) one_each) jobs.now (keeps_in result.keeps (length jobs.now)) result.kept result.discarded }
 {
-    if nested {
-        return choosing::choose(jobs, count);
+    match kind {
+        Kind::Nested => choosing::choose(jobs),
+        Kind::Similar => sequencing::choose(jobs),
     }
-    sequencing::choose(jobs, count)
 }
 
 // The runs of jobs under a keep list that fits, put by start into three lent columns that are long enough; what stands beyond them is kept. The number of
 // runs is returned.
 fn place(
-    jobs: [Job; MAX_TASKS],
-    count: usize,
-    nested: bool,
-    keeps: [bool; MAX_TASKS],
+    jobs: &[Job],
+    kind: Kind,
+    keeps: &[bool],
     starts: &mut [u32],
     ends: &mut [u32],
     tasks: &mut [u32],
 ) -> usize
-    requires held_jobs { HeldJobs nested jobs count }
-    requires count_value { fits_by nested (jobs_in jobs count) (keeps_in keeps count) ≡ true }
-    requires runs_room { RunsRoom count starts.old ends.old tasks.old }
-    ensures value { result ≡ length (runs_by nested (jobs_in jobs count) (keeps_in keeps count)) }
-    ensures runs_put { RunsPut (runs_by nested (jobs_in jobs count) (keeps_in keeps count)) starts ends tasks }
+    requires held_jobs { HeldJobs (by_nesting kind) jobs.now }
+    requires keeps_value { fits_by (by_nesting kind) jobs.now keeps.now ≡ true }
+    requires runs_room { RunsRoom (length jobs.now) starts.old ends.old tasks.old }
+    ensures value { result ≡ length (runs_by (by_nesting kind) jobs.now keeps.now) }
+    ensures runs_put { RunsPut (runs_by (by_nesting kind) jobs.now keeps.now) starts ends tasks }
 {
-    if nested {
-        return placing::place(jobs, count, keeps, starts, ends, tasks);
+    match kind {
+        Kind::Nested => placing::place(jobs, keeps, starts, ends, tasks),
+        Kind::Similar => sequencing::place(jobs, keeps, starts, ends, tasks),
     }
-    sequencing::place(jobs, count, keeps, starts, ends, tasks)
 }
 
-// What is refused of jobs before they are planned, for lent lists of these lengths: 8, then 9; a reply of 0 throughout where neither is due.
+// What is refused of jobs before they are planned, for lent lists of these lengths: 8, then 9.
 pub fn refused_jobs(
-    jobs: [Job; MAX_TASKS],
-    count: usize,
-    nested: bool,
+    jobs: &[Job],
+    kind: Kind,
     marks: usize,
     starts: usize,
     ends: usize,
     tasks: usize,
-) -> Planned
-    requires { HeldJobs nested jobs count }
-    ensures { result ≡ refused_by nested count (jobs_in jobs count) marks starts ends tasks }
+) -> Result<(), PlanRefusal>
+    requires { HeldJobs (by_nesting kind) jobs.now }
+    ensures { RefusedBy (by_nesting kind) jobs.now marks starts ends tasks result }
 {
-    let unmet = first_unmet(jobs, count, nested);
-    if unmet < count {
-        return declined(8, unmet);
+    let unmet = first_unmet(jobs, kind);
+    if unmet < jobs.len() {
+        return Err(PlanRefusal::Unmet(unmet));
     }
-    if too_short(count, marks, starts, ends, tasks) {
-        return declined(9, 0);
+    if too_short(jobs.len(), marks, starts, ends, tasks) {
+        return Err(PlanRefusal::ShortLists);
     }
-    declined(0, 0)
+    Ok(())
 }
 
 // The marks and the runs of jobs under a choice that fits, put into lists that are long enough, and the reply with its counts.
 pub fn put_choice(
-    jobs: [Job; MAX_TASKS],
-    count: usize,
-    nested: bool,
-    choice: Choice,
+    jobs: &[Job],
+    kind: Kind,
+    choice: &Choice,
     marks: &mut [u8],
     starts: &mut [u32],
     ends: &mut [u32],
     tasks: &mut [u32],
 ) -> Planned
-    requires held_jobs { HeldJobs nested jobs count }
-    requires count_value { fits_by nested (jobs_in jobs count) (keeps_in choice.keeps count) ≡ true }
-    requires tasks_value { short_lists count (lent marks.old starts.old ends.old tasks.old) ≡ false }
-    ensures value { result
-        ≡ plan_made choice.kept choice.discarded (length (runs_by nested (jobs_in jobs count) (keeps_in choice.keeps count))) }
+    requires held_jobs { HeldJobs (by_nesting kind) jobs.now }
+    requires keeps_value { fits_by (by_nesting kind) jobs.now (keeps_in choice.now.keeps (length jobs.now)) ≡ true }
+    requires tasks_value { short_lists (length jobs.now) (lent marks.old starts.old ends.old tasks.old) ≡ false }
+    ensures value { result ≡ plan_made choice.now.kept choice.now.discarded
+        (length (runs_by (by_nesting kind) jobs.now (keeps_in choice.now.keeps (length jobs.now)))) }
     ensures tasks_value_2 { lent_after marks starts ends tasks
-        ≡ written_with nested count (jobs_in jobs count) (keeps_in choice.keeps count) (lent_before marks starts ends tasks) }
+        ≡ written_with (by_nesting kind) (length jobs.now) jobs.now (keeps_in choice.now.keeps (length jobs.now)) (lent_before marks starts ends tasks) }
 {
-    let keeps = choice.keeps;
-    put_marks(jobs, keeps, count, marks);
-    let runs = place(jobs, count, nested, keeps, starts, ends, tasks);
+    let keeps = &choice.keeps[..jobs.len()];
+    put_marks(jobs, keeps, marks);
+    let runs = place(jobs, kind, keeps, starts, ends, tasks);
     planned(choice.kept, choice.discarded, runs)
 }
 
 // Planning jobs of a kind: 8, then 9, then the plan.
 fn plan_jobs(
-    jobs: [Job; MAX_TASKS],
-    count: usize,
-    nested: bool,
+    jobs: &[Job],
+    kind: Kind,
     marks: &mut [u8],
     starts: &mut [u32],
     ends: &mut [u32],
     tasks: &mut [u32],
-) -> Planned
-    requires { HeldJobs nested jobs count }
-    ensures value { result ≡ reply_by nested one_each count (jobs_in jobs count) (lent_before marks starts ends tasks) }
+) -> Result<Planned, PlanRefusal>
+    requires { HeldJobs (by_nesting kind) jobs.now }
+    ensures value { planned_of result ≡ reply_by (by_nesting kind) one_each (length jobs.now) jobs.now (lent_before marks starts ends tasks) }
     ensures tasks_value { lent_after marks starts ends tasks
-        ≡ after_by nested one_each count (jobs_in jobs count) result (lent_before marks starts ends tasks) }
+        ≡ after_by (by_nesting kind) one_each (length jobs.now) jobs.now (planned_of result) (lent_before marks starts ends tasks) }
 {
-    let refusal = refused_jobs(
+    refused_jobs(
         jobs,
-        count,
-        nested,
+        kind,
         marks.len(),
         starts.len(),
         ends.len(),
         tasks.len(),
-    );
-    if refusal.number != 0 {
-        return refusal;
-    }
-    let choice = choose(jobs, count, nested);
-    put_choice(jobs, count, nested, choice, marks, starts, ends, tasks)
+    )?;
+    let choice = choose(jobs, kind);
+    Ok(put_choice(jobs, kind, &choice, marks, starts, ends, tasks))
 }
 
 // Planning the table of an accepted file at a launch tick, by its kind and the keys of its order: 14 first.
 fn plan_table(
     table: Table,
-    nested: bool,
-    keys: [u32; MAX_TASKS],
+    found: &KindKeys,
     launch: u32,
     marks: &mut [u8],
     starts: &mut [u32],
     ends: &mut [u32],
     tasks: &mut [u32],
-) -> Planned
+) -> Result<Planned, PlanRefusal>
     requires legal { Legal table }
-    requires nested_value { nested ≡ is_nested table }
-    requires keys_held { KeysHeld (is_nested table) table table.count keys }
-    ensures value { result ≡ plan_table launch one_each table (lent_before marks starts ends tasks) }
+    requires kind_found { KindFound table (by_nesting found.now.kind) found.now.keys }
+    ensures value { planned_of result ≡ plan_table launch one_each table (lent_before marks starts ends tasks) }
     ensures tasks_value { lent_after marks starts ends tasks
-        ≡ lists_after launch one_each table result (lent_before marks starts ends tasks) }
+        ≡ lists_after launch one_each table (planned_of result) (lent_before marks starts ends tasks) }
 {
     if clock::bad_launch(launch) {
-        return declined(14, 0);
+        return Err(PlanRefusal::Launch);
     }
-    let count = table.count as usize;
-    let jobs = ordering::jobs_last_first(table, launch, keys);
-    plan_jobs(jobs, count, nested, marks, starts, ends, tasks)
+    let jobs = ordering::jobs_last_first(table, launch, &found.keys);
+    plan_jobs(
+        &jobs[..table.count as usize],
+        found.kind,
+        marks,
+        starts,
+        ends,
+        tasks,
+    )
 }
 
 // A reply of planning with the task count of the table that was read, which is 0 where reading refuses.
@@ -275,12 +313,12 @@ pub struct Counted {
 }
 
 // The reply where reading refuses.
-fn refused(answer: Answer) -> Counted
-    ensures { (result.count ≡ 0) × (result.reply ≡ plan_declined (number_of answer) (place_of answer)) }
+fn refused(refusal: Refusal) -> Counted
+    ensures { (result.count ≡ 0) × (result.reply ≡ plan_declined (refusal_number refusal) (refusal_place refusal)) }
 {
     Counted {
         count: 0,
-        reply: declined(answer.number(), answer.place()),
+        reply: declined(PlanRefusal::from(refusal)),
     }
 }
 
@@ -299,21 +337,17 @@ pub fn plan_counted(
     ensures tasks_value { lent_after marks starts ends tasks
         ≡ lists_left launch (plain_read file.now) result.reply (lent_before marks starts ends tasks) }
 {
-    let read = reading::read_any_kind(file);
-    let table = read.table;
-    let answer = read.answer;
-    let Answer::Accepted = answer else {
-        return refused(answer);
+    let table = match reading::read_any_kind(file) {
+        Ok(table) => table,
+        Err(refusal) => return refused(refusal),
     };
-    let kind = ordering::keys_of_kind(table);
-    if !kind.accepted {
-        return refused(table.window_answer());
-    }
-    let keys = kind.keys;
-    let reply = plan_table(table, kind.nested, keys, launch, marks, starts, ends, tasks);
+    let Some(found) = ordering::keys_of_kind(table) else {
+        return refused(table.window_answer().unwrap_err());
+    };
+    let planned = plan_table(table, &found, launch, marks, starts, ends, tasks);
     Counted {
         count: table.count,
-        reply,
+        reply: reply(planned),
     }
 }
 
@@ -345,7 +379,5 @@ pub fn plan(
         (lent_before marks starts ends tasks)
         (lent_after marks starts ends tasks) }
 {
-    let counted = plan_counted(file, launch, marks, starts, ends, tasks);
-    let reply = counted.reply;
-    reply
+    plan_counted(file, launch, marks, starts, ends, tasks).reply
 }

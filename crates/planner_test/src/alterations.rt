@@ -1,7 +1,6 @@
 // Plans of small tables, and plans with one part altered, of which the comparisons must say that they differ.
 use plans::Planned;
 use small_tables::{PLACES, RUNS};
-use std::num::wrapping_add_u32;
 
 // A plan as the planner gives it: the reply, and the lent lists.
 #[derive(Clone, Copy)]
@@ -34,16 +33,16 @@ fn altered_reply(reply: Planned, part: u32) -> Planned {
     let mut altered = reply;
     match part {
         1 => {
-            altered.number = wrapping_add_u32(reply.number, 1);
+            altered.number = reply.number.wrapping_add(1);
         }
         2 => {
             altered.place = reply.place % 8 + 1;
         }
         3 => {
-            altered.kept = wrapping_add_u32(reply.kept, 1);
+            altered.kept = reply.kept.wrapping_add(1);
         }
         4 => {
-            altered.discarded = wrapping_add_u32(reply.discarded, 1);
+            altered.discarded = reply.discarded.wrapping_add(1);
         }
         5 => {
             altered.runs = reply.runs % 8 + 1;
@@ -58,32 +57,27 @@ fn altered_run(runs: usize, part: u32) -> usize {
     if part <= 9 {
         return 0;
     }
-    if runs == 0 {
-        return 0;
-    }
-    runs - 1
+    runs.saturating_sub(1)
 }
 
 // A plan with a part altered: 1 to 5 for the parts of the reply, 6 for the mark of task 0, which is turned; 7, 8 and 9 for the start, the end and the task of
 // the first run, and 10, 11 and 12 for those of the last run, each of which is then one more.
 pub fn altered(plan: Plan, part: u32) -> Plan {
-    let reply = plan.reply;
-    let run = altered_run(reply.runs, part) % RUNS;
-    let changed = altered_reply(reply, part);
+    let run = altered_run(plan.reply.runs, part) % RUNS;
     let mut altered = plan;
-    altered.reply = changed;
+    altered.reply = altered_reply(plan.reply, part);
     match part {
         6 => {
             altered.marks[0] = 1 - plan.marks[0] % 2;
         }
         7 | 10 => {
-            altered.starts[run] = wrapping_add_u32(plan.starts[run], 1);
+            altered.starts[run] = plan.starts[run].wrapping_add(1);
         }
         8 | 11 => {
-            altered.ends[run] = wrapping_add_u32(plan.ends[run], 1);
+            altered.ends[run] = plan.ends[run].wrapping_add(1);
         }
         9 | 12 => {
-            altered.tasks[run] = wrapping_add_u32(plan.tasks[run], 1);
+            altered.tasks[run] = plan.tasks[run].wrapping_add(1);
         }
         _ => {}
     }

@@ -5,35 +5,31 @@ use crate::alterations::Plan;
 use crate::{alterations, judges};
 use base::MAX_TASKS;
 use plans::Planned;
-use small_tables::{EXCEEDED, Family, PLACES, Runnings};
-use std::num::wrapping_add_u64;
+use small_tables::{EXCEEDED, Family, Kind, PLACES, Runnings};
 use table::{NO_TASK, Table, Task};
 
-// What planning a table came to: the planner's reply, whether the windows are nested, what trying all runnings came to, and whether the plan is other than
-// the search over every keep list finds, or than the judge says yes to.
+// What planning a table came to: the planner's reply, the kind by whose rules it is planned, what trying all runnings came to, where they were tried, and
+// whether the plan is other than the search over every keep list finds, or than the judge says yes to.
 #[derive(Clone, Copy)]
 struct Outcome {
     reply: Planned,
-    nested: bool,
-    tried: Tried,
+    kind: Kind,
+    tried: Option<Tried>,
     search_differs: bool,
     judge_differs: bool,
 }
 
-// What trying all runnings of a table came to: whether they were tried, how many there are, and whether the reply is other than they say.
+// What trying all runnings of a table came to: how many there are, and whether the reply is other than they say.
 #[derive(Clone, Copy)]
 struct Tried {
-    done: bool,
     runnings: u32,
     differs: bool,
 }
 
 // The keep list of some marks by position.
 fn list_of(marks: [u8; PLACES]) -> u32 {
-    marks[0] as u32 % 256
-        + 2 * (marks[1] as u32 % 256)
-        + 4 * (marks[2] as u32 % 256)
-        + 8 * (marks[3] as u32 % 256)
+    let [a, b, c, d] = marks.map(u32::from);
+    a % 256 + 2 * (b % 256) + 4 * (c % 256) + 8 * (d % 256)
 }
 
 // A reply refuses a table by a number, at a place.
@@ -55,35 +51,38 @@ fn is_plan(reply: Planned, score: u32, count: usize) -> bool {
 }
 
 // The reply, the marks and the runs are what the search over every keep list finds for a table of one of the kinds.
-fn is_best(family: Family, tasks: [Task; PLACES], nested: bool, plan: Plan) -> bool {
+fn is_best(family: Family, tasks: [Task; PLACES], kind: Kind, plan: Plan) -> bool {
     let reply = plan.reply;
-    let none = small_tables::score(tasks, family.row, nested, 0);
+    let none = small_tables::score(tasks, family.row, kind, 0);
     if EXCEEDED <= none {
         return is_refusal(reply, 8, (none % 4) as usize);
     }
-    let best = small_tables::best(tasks, family.row, nested);
-    let owners = small_tables::placed(tasks, family.row, nested, best.list);
-    let marks = plan.marks;
-    let starts = plan.starts;
-    let ends = plan.ends;
-    let run_tasks = plan.tasks;
+    let best = small_tables::best(tasks, family.row, kind);
+    let owners = small_tables::placed(tasks, family.row, kind, best.list);
     is_plan(reply, best.score, family.count)
-        && list_of(marks) == best.list
-        && small_tables::same_runs(owners, family.launch, reply.runs, starts, ends, run_tasks)
+        && list_of(plan.marks) == best.list
+        && small_tables::same_runs(
+            owners,
+            family.launch,
+            reply.runs,
+            plan.starts,
+            plan.ends,
+            plan.tasks,
+        )
 }
 
 // The reply, the marks and the runs are as expected: 7 where the table is of neither kind, at the place `neither`.
 fn is_found(
     family: Family,
     tasks: [Task; PLACES],
-    nested: bool,
-    neither: usize,
+    kind: Kind,
+    neither: Option<usize>,
     plan: Plan,
 ) -> bool {
-    if neither < 4 {
-        return is_refusal(plan.reply, 7, neither);
+    match neither {
+        Some(place) => is_refusal(plan.reply, 7, place),
+        None => is_best(family, tasks, kind, plan),
     }
-    is_best(family, tasks, nested, plan)
 }
 
 // The reply is what all runnings of a table of one of the kinds say: 8 where there is none, at the first task that can't be met; else a plan that discards as
@@ -92,12 +91,12 @@ fn is_reply_of(
     runnings: Runnings,
     family: Family,
     tasks: [Task; PLACES],
-    nested: bool,
+    kind: Kind,
     reply: Planned,
 ) -> bool {
     if runnings.count == 0 {
         return reply.number == 8
-            && small_tables::is_first_unmet(tasks, family.row, nested, reply.place);
+            && small_tables::is_first_unmet(tasks, family.row, kind, reply.place);
     }
     reply.number == 0 && reply.discarded == runnings.fewest
 }
@@ -106,41 +105,31 @@ fn is_reply_of(
 fn try_runnings(
     family: Family,
     tasks: [Task; PLACES],
-    nested: bool,
-    neither: usize,
+    kind: Kind,
+    neither: Option<usize>,
     reply: Planned,
-) -> Tried {
-    if neither < 4 || !small_tables::has_few_ticks(family) {
-        return Tried {
-            done: false,
-            runnings: 0,
-            differs: false,
-        };
+) -> Option<Tried> {
+    if neither.is_some() || !small_tables::has_few_ticks(family) {
+        return None;
     }
     let runnings = small_tables::all_runnings(tasks, family.row);
-    Tried {
-        done: true,
+    Some(Tried {
         runnings: runnings.count,
-        differs: !is_reply_of(runnings, family, tasks, nested, reply),
-    }
+        differs: !is_reply_of(runnings, family, tasks, kind, reply),
+    })
 }
 
 // The judge says yes to a plan of a family's table, with the plan's counts.
 fn is_judged(family: Family, file: &[u8], plan: Plan) -> bool {
-    let reply = plan.reply;
-    let marks = plan.marks;
-    let starts = plan.starts;
-    let ends = plan.ends;
-    let tasks = plan.tasks;
     judges::agrees(
-        reply,
+        plan.reply,
         file,
         family.launch,
         family.count % 5,
-        &marks,
-        &starts,
-        &ends,
-        &tasks,
+        &plan.marks,
+        &plan.starts,
+        &plan.ends,
+        &plan.tasks,
     )
 }
 
@@ -148,16 +137,13 @@ fn is_judged(family: Family, file: &[u8], plan: Plan) -> bool {
 fn compared(family: Family, tasks: [Task; PLACES], file: &[u8], part: u32) -> Outcome {
     let made = alterations::planned(file, family.launch);
     let plan = alterations::altered(made, part);
-    let made_reply = made.reply;
-    let reply = plan.reply;
-    let nested = small_tables::is_nested(tasks, family.count);
+    let kind = small_tables::kind_of(tasks, family.count);
     let neither = small_tables::first_of_neither(tasks, family.count);
-    let tried = try_runnings(family, tasks, nested, neither, reply);
     Outcome {
-        reply: made_reply,
-        nested,
-        tried,
-        search_differs: !is_found(family, tasks, nested, neither, plan),
+        reply: made.reply,
+        kind,
+        tried: try_runnings(family, tasks, kind, neither, plan.reply),
+        search_differs: !is_found(family, tasks, kind, neither, plan),
         judge_differs: !is_judged(family, file, plan),
     }
 }
@@ -167,10 +153,7 @@ fn table_of(family: Family, tasks: [Task; PLACES]) -> Table
     ensures { result.count ≤ 4 }
 {
     let mut places = [NO_TASK; MAX_TASKS];
-    places[0] = tasks[0];
-    places[1] = tasks[1];
-    places[2] = tasks[2];
-    places[3] = tasks[3];
+    places[..PLACES].copy_from_slice(&tasks);
     Table {
         count: (family.count % 5) as u32,
         p: family.p,
@@ -198,76 +181,117 @@ fn try_table(family: Family, index: u32, part: u32) -> Outcome {
     compared(family, tasks, &file[0..length], part)
 }
 
-// Counts over tables: at places 0 to 15 the planner's replies by their number; then the sums of kept, discarded and runs; the planned tables that are similar
-// and not nested; the tables that were tried on all runnings, and the runnings; the tables whose plan is not what the search over every keep list finds,
-// whose reply is not what all runnings say, and to whose plan the judge doesn't say yes; and one more than the index of the first such table,
-// or 0 where there is none.
-const COUNTS: usize = 26;
-
-// 1 for what holds, and else 0.
-fn one(holds: bool) -> u64 {
-    if holds {
-        return 1;
-    }
-    0
+// Counts over tables.
+#[derive(Clone, Copy)]
+struct Counts {
+    // The planner's replies by their number.
+    replies: [u64; 16],
+    // The sums of kept, discarded and runs.
+    kept: u64,
+    discarded: u64,
+    runs: u64,
+    // The planned tables that are similar and not nested.
+    similar: u64,
+    // The tables that were tried on all runnings, and the runnings.
+    tried: u64,
+    runnings: u64,
+    // The tables whose plan is not what the search over every keep list finds, whose reply is not what all runnings say, and to whose plan the judge doesn't
+    // say yes.
+    search_differs: u64,
+    runnings_differ: u64,
+    judge_differs: u64,
+    // The index of the first such table.
+    first: Option<u32>,
 }
 
-// The counts with one table more.
-fn counted(counts: [u64; COUNTS], outcome: Outcome, index: u32) -> [u64; COUNTS] {
-    let reply = outcome.reply;
-    let tried = outcome.tried;
-    let number = (reply.number % 16) as usize;
-    let similar = reply.number == 0 && !outcome.nested;
-    let differs = outcome.search_differs || tried.differs || outcome.judge_differs;
-    let mut after = counts;
-    after[number] = wrapping_add_u64(counts[number], 1);
-    after[16] = wrapping_add_u64(counts[16], reply.kept as u64);
-    after[17] = wrapping_add_u64(counts[17], reply.discarded as u64);
-    after[18] = wrapping_add_u64(counts[18], reply.runs as u64);
-    after[19] = wrapping_add_u64(counts[19], one(similar));
-    after[20] = wrapping_add_u64(counts[20], one(tried.done));
-    after[21] = wrapping_add_u64(counts[21], tried.runnings as u64);
-    after[22] = wrapping_add_u64(counts[22], one(outcome.search_differs));
-    after[23] = wrapping_add_u64(counts[23], one(tried.differs));
-    after[24] = wrapping_add_u64(counts[24], one(outcome.judge_differs));
-    if differs && counts[22] | counts[23] | counts[24] == 0 {
-        after[25] = wrapping_add_u64(index as u64, 1);
+impl Counts {
+    // The counts over no tables.
+    fn new() -> Counts {
+        Counts {
+            replies: [0; 16],
+            kept: 0,
+            discarded: 0,
+            runs: 0,
+            similar: 0,
+            tried: 0,
+            runnings: 0,
+            search_differs: 0,
+            runnings_differ: 0,
+            judge_differs: 0,
+            first: None,
+        }
     }
-    after
+
+    // The counts with a planner's reply more.
+    fn with_reply(mut self, reply: Planned, kind: Kind) -> Counts {
+        let number = (reply.number % 16) as usize;
+        let similar = reply.number == 0 && kind == Kind::Similar;
+        self.replies[number] = self.replies[number].wrapping_add(1);
+        self.kept = self.kept.wrapping_add(u64::from(reply.kept));
+        self.discarded = self.discarded.wrapping_add(u64::from(reply.discarded));
+        self.runs = self.runs.wrapping_add(reply.runs as u64);
+        self.similar = self.similar.wrapping_add(u64::from(similar));
+        self
+    }
+
+    // The counts with the table at an index more.
+    fn with_table(self, outcome: Outcome, index: u32) -> Counts {
+        let mut counts = self.with_reply(outcome.reply, outcome.kind);
+        let mut differs = outcome.search_differs || outcome.judge_differs;
+        if let Some(tried) = outcome.tried {
+            differs = differs || tried.differs;
+            counts.tried = counts.tried.wrapping_add(1);
+            counts.runnings = counts.runnings.wrapping_add(u64::from(tried.runnings));
+            counts.runnings_differ = counts
+                .runnings_differ
+                .wrapping_add(u64::from(tried.differs));
+        }
+        counts.search_differs = counts
+            .search_differs
+            .wrapping_add(u64::from(outcome.search_differs));
+        counts.judge_differs = counts
+            .judge_differs
+            .wrapping_add(u64::from(outcome.judge_differs));
+        if differs && counts.first.is_none() {
+            counts.first = Some(index);
+        }
+        counts
+    }
 }
 
 // Plans the first `tables` tables of a family, each plan with a part altered, and counts.
-fn try_all(family: Family, tables: u32, part: u32) -> [u64; COUNTS] {
-    let mut counts = [0u64; COUNTS];
-    let mut index: u32 = 0;
-    while index < tables {
-        let after = counted(counts, try_table(family, index, part), index);
-        counts = after;
-        index += 1;
+fn try_all(family: Family, tables: u32, part: u32) -> Counts {
+    let mut counts = Counts::new();
+    for index in 0..tables {
+        counts = counts.with_table(try_table(family, index, part), index);
     }
     counts
 }
 
-// Prints the launch tick and the counts over so many tables.
-fn show(launch: u32, tables: u32, counts: [u64; COUNTS]) {
+// Prints the launch tick and the counts over so many tables; of the first table that differs one more than its index, and 0 where there is none.
+fn show(launch: u32, tables: u32, counts: Counts) {
+    let first = match counts.first {
+        Some(index) => u64::from(index) + 1,
+        None => 0,
+    };
     cases::show(
         b" # # # # # # # # #; runnings # #; differ # # # #\n",
         &[
-            launch as u64,
-            tables as u64,
-            counts[0],
-            counts[19],
-            counts[7],
-            counts[8],
-            counts[16],
-            counts[17],
-            counts[18],
-            counts[20],
-            counts[21],
-            counts[22],
-            counts[23],
-            counts[24],
-            counts[25],
+            u64::from(launch),
+            u64::from(tables),
+            counts.replies[0],
+            counts.similar,
+            counts.replies[7],
+            counts.replies[8],
+            counts.kept,
+            counts.discarded,
+            counts.runs,
+            counts.tried,
+            counts.runnings,
+            counts.search_differs,
+            counts.runnings_differ,
+            counts.judge_differs,
+            first,
         ],
     );
 }

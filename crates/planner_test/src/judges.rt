@@ -3,15 +3,16 @@ ghost use Rattle.std.specs.Prelude.{◌≤◌, length};
 ghost use Rattle.schedule.specs.LentRuns.{OneLength};
 
 use plans::Planned;
-use schedule::Judged;
+use schedule::{Judged, Run};
+use small_tables::RUNS;
 
 // The verdict is yes, with the counts of the plan.
 fn is_yes(verdict: Judged, reply: Planned) -> bool {
     verdict.yes && verdict.kept == reply.kept && verdict.discarded == reply.discarded
 }
 
-// The judge says yes, at the launch tick of the plan, to the part of the lists that was written: a mark for each of `count` tasks, and the runs. Where
-// planning refused there is nothing to judge, and no runs.
+// The judge says yes, at the launch tick of the plan, to the part of the lists that was written: a mark for each of `count` tasks, and the runs, of which
+// there are at most RUNS. Where planning refused there is nothing to judge, and no runs.
 pub fn agrees(
     reply: Planned,
     file: &[u8],
@@ -24,6 +25,7 @@ pub fn agrees(
 ) -> bool
     requires count_in_bounds { count ≤ length marks.now }
     requires one_length { OneLength starts ends tasks }
+    requires room { length starts.now ≤ 7 }
 {
     let runs = reply.runs;
     if reply.number != 0 {
@@ -32,15 +34,9 @@ pub fn agrees(
     if starts.len() < runs {
         return false;
     }
+    let records: [Run; RUNS] = schedule::runs_of(starts, ends, tasks);
     is_yes(
-        judging::judge_columns(
-            file,
-            launch,
-            &marks[0..count],
-            &starts[0..runs],
-            &ends[0..runs],
-            &tasks[0..runs],
-        ),
+        judging::judge(file, launch, &marks[0..count], &records[..runs]),
         reply,
     )
 }

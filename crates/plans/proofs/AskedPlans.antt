@@ -9,10 +9,9 @@ use Rattle.base.specs.Limits.{max_runs}
 use Rattle.table.specs.declared.Table.{Table}
 use Rattle.table.specs.Writing.{Legal}
 use Rattle.table.proofs.FileLaws.{legal_count}
-use Rattle.schedule.specs.declared.RunsAnswer.TheVariants as checked
 use Rattle.schedule.specs.Ticks.{ticks_owned}
 use Rattle.schedule.specs.Runs.{too_many, owner_of}
-use Rattle.schedule.specs.RunCheck.{check_answer}
+use Rattle.schedule.specs.RunCheck.{Accepted, check_answer}
 use Rattle.schedule.specs.BusyCount.{busy_reply}
 use Rattle.schedule.proofs.CheckLaws.{ordered_accepted}
 use Rattle.schedule.proofs.BusyLaws.{sum_owned}
@@ -22,7 +21,7 @@ use Rattle.plans.proofs.PlanLaws.{plan_listed, plan_few}
 
 -- It has no more runs than a run list may have, none is empty, and none starts before the one before it ends. So a query of a plan is never
 -- refused, and where it answers that there is no run, there is none.
-pub plan_checked : (launch : ℕ) (weight : ℕ → ℕ) (t : Table) → Legal t → mandatory_fit launch t ≡ true → check_answer (plan_runs launch weight t) ≡ checked.Accepted
+pub plan_checked : (launch : ℕ) (weight : ℕ → ℕ) (t : Table) → Legal t → mandatory_fit launch t ≡ true → check_answer (plan_runs launch weight t) ≡ Accepted
 unfolding too_many
 plan_checked launch weight t legal fit =
     let listed = plan_listed launch weight t legal fit in

@@ -14,7 +14,7 @@ use Rattle.base.specs.Places.{places_from, places}
 use Rattle.base.proofs.MemberLaws.{all_places}
 use Rattle.base.proofs.PlaceLaws.{places_around}
 use Rattle.clock.specs.Clock.{bad_launch}
-use Rattle.table.specs.declared.Answer.TheVariants.{Accepted}
+use Rattle.table.specs.Answers.{Accepted}
 use Rattle.table.specs.declared.Table.{Table}
 use Rattle.table.specs.Tables.{task_at}
 use Rattle.table.specs.Reading.{ReadTable}

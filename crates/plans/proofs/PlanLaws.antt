@@ -13,7 +13,7 @@ use Rattle.base.proofs.LowestLaws.{none_passes}
 use Rattle.base.proofs.PlaceLaws.{places_length, places_at}
 use Rattle.clock.specs.Clock.{bad_launch}
 use Rattle.table.specs.declared.Table.{Table}
-use Rattle.table.specs.declared.Answer.TheVariants.{Accepted}
+use Rattle.table.specs.Answers.{Accepted}
 use Rattle.table.specs.Kinds.{is_nested}
 use Rattle.table.specs.Reading.{ReadTable, one_each}
 use Rattle.table.specs.Writing.{Legal}

@@ -12,10 +12,9 @@ use Rattle.base.specs.Lent.{written_front}
 use Rattle.base.proofs.TestLaws.{cases, both_absurd}
 use Rattle.clock.specs.Clock.{bad_launch}
 use Rattle.table.specs.declared.Table.{Table}
-use Rattle.table.specs.declared.Answer.TheVariants.{Accepted}
+use Rattle.table.specs.Answers.{Accepted, number_of, place_of, is_accepted}
 use Rattle.table.specs.Kinds.{is_nested}
 use Rattle.table.specs.Writing.{Legal}
-use Rattle.table.specs.Answers.{number_of, place_of, is_accepted}
 use Rattle.table.specs.Reading.{ReadTable, plain_read}
 use Rattle.table.specs.LegalReads.{LegalRead}
 use Rattle.table.proofs.AnswerLaws.{refused_number, never_eight, accepted_is}
@@ -28,6 +27,7 @@ use Rattle.plans.specs.Planning.{LentLists, short_lists, unmet_by, runs_by, mark
 use Rattle.plans.specs.PlanParts.{plan_of, unmet_place, written_with, refused_by}
 use Rattle.plans.specs.Demands.{marks_in, runs_in, JudgeAccepts, PlannedOptimal, PlannedByWeight}
 use Rattle.orders.specs.KindOrder.{jobs_last_first}
+use Rattle.orders.proofs.OrderLaws.{jobs_length}
 use Rattle.plans.specs.Rules.{FirstUnmet, FirstExceeding, PlannedByRules, EightFirst}
 use Rattle.plans.proofs.PlanLaws.{table_reply, none_unmet, marks_length, count_optimal, weight_optimal, Plannable, plan_judged}
 use Rattle.plans.proofs.UnmetFirst.{unmet_first}
@@ -98,13 +98,13 @@ written_lists nested n jobs keeps old new m s e k = rw (← m, ← s, ← e, ←
 
 -- What planning the jobs of a table gives is what planning the table gives.
 module _ (launch : ℕ) (weight : ℕ → ℕ) (t : Table) (nested : Bool) (is : is_nested t ≡ nested) (jobs : List Job) (same : jobs ≡ jobs_last_first launch t) where
-  pub reply_of_jobs : bad_launch launch ≡ false → (lists : LentLists) → reply_by nested weight t.count jobs lists ≡ plan_table launch weight t lists
+  pub reply_of_jobs : bad_launch launch ≡ false → (lists : LentLists) → reply_by nested weight (length jobs) jobs lists ≡ plan_table launch weight t lists
   unfolding plan_table
-  reply_of_jobs low lists = rw (low, is, same) refl
+  reply_of_jobs low lists = rw (low, is, same, jobs_length launch t) refl
 
-  pub lists_of_jobs : (reply : Planned) (lists : LentLists) → after_by nested weight t.count jobs reply lists ≡ lists_after launch weight t reply lists
+  pub lists_of_jobs : (reply : Planned) (lists : LentLists) → after_by nested weight (length jobs) jobs reply lists ≡ lists_after launch weight t reply lists
   unfolding lists_after
-  lists_of_jobs reply lists = rw (is, same) refl
+  lists_of_jobs reply lists = rw (is, same, jobs_length launch t) refl
 
 -- the same of a table's plan, and the lists that hold it
 pub table_kept : (launch : ℕ) (weight : ℕ → ℕ) (t : Table) (reply : Planned) (lists : LentLists) → eqb reply.number 0 ≡ false → lists ≡ lists_after launch weight t reply lists

@@ -15,10 +15,9 @@ use Rattle.table.specs.Layout.{file_bytes_read}
 use Rattle.table.specs.Reading.{one_each, plain_read, table_in}
 use Rattle.table.proofs.FileLaws.{legal_count}
 use Rattle.schedule.specs.declared.Run.{Run}
-use Rattle.schedule.specs.declared.Found.{Found}
 use Rattle.schedule.specs.BusyCount.{shared}
 use Rattle.schedule.specs.RunCheck.{check_answer, runs_accepted}
-use Rattle.schedule.specs.Queries.{run_at_tick, run_from_tick, is_found, run_found, touches, runs_that, touching}
+use Rattle.schedule.specs.Queries.{Found, run_at_tick, run_from_tick, is_found, run_found, touches, runs_that, touching}
 use Rattle.plans.specs.declared.Planned.{Planned}
 use Rattle.plans.specs.Planning.{plan_runs}
 use Rattle.plans.proofs.PlanLaws.{plan_few}

@@ -4,10 +4,8 @@ use Rattle.base.specs.Tests.{pick}
 use Rattle.lines.specs.Text.{space, line}
 use Rattle.table.specs.Reading.{one_each, table_in}
 use Rattle.schedule.specs.declared.Run.{Run}
-use Rattle.schedule.specs.declared.Found.{Found}
-use Rattle.schedule.specs.declared.RunsAnswer.TheVariants as checked
-use Rattle.schedule.specs.RunCheck.{check_answer}
-use Rattle.schedule.specs.Queries.{run_at_tick, run_from_tick, is_found, run_found, touching}
+use Rattle.schedule.specs.RunCheck.{Accepted, check_answer}
+use Rattle.schedule.specs.Queries.{Found, run_at_tick, run_from_tick, is_found, run_found, touching}
 use Rattle.plans.specs.Planning.{plan_runs}
 use Rattle.printed_plan.specs.Printing.{run_numbers, run_lines, reply_text, long_reply}
 
@@ -38,4 +36,4 @@ now_text launch tick span file = reply_text (long_reply launch file) (now_lines 
 
 -- where planning does not refuse the file, the check accepts the runs of its plan: so no query of them is refused, and NONE never stands for a refusal
 abbrev pub PlanAccepted : ℕ → List ℕ → Type 0
-PlanAccepted launch file = (long_reply launch file).number ≡ 0 → check_answer (plan_runs launch one_each (table_in file)) ≡ checked.Accepted
+PlanAccepted launch file = (long_reply launch file).number ≡ 0 → check_answer (plan_runs launch one_each (table_in file)) ≡ Accepted

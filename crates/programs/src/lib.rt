@@ -6,6 +6,7 @@
 use console::NOW_INPUT_BYTES;
 use report::{INPUT_BYTES, MAX_TEXT};
 
+mod causes;
 mod from_text;
 mod to_text;
 
@@ -29,7 +30,8 @@ pub fn plan(input: i32, output: i32) {
 }
 
 // Plans the table file of an input at the launch tick before it, and prints what runs at the tick that stands there too, what runs next and
-// the runs of so many ticks from it on, or the refusal.
+// the runs of so many ticks from it on, or the refusal. It is not one function with `plan`: that would have to require of the closure that it is given how
+// much it may print.
 pub fn now(input: i32, output: i32) {
     let mut first = [0u8; NOW_INPUT_BYTES];
     let filled = io::read_full(input, &mut first);

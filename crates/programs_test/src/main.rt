@@ -4,7 +4,7 @@
 // and behind the line `output` what is written to standard output.
 #![tactic(auto)]
 
-use cases::{STDIN, STDOUT};
+use cases::STDOUT;
 use std::fs::File;
 use std::os::fd::AsRawFd;
 
@@ -51,29 +51,13 @@ fn run_by_streams(rt: &HostRuntime, start: u8, name: &[u8]) {
 }
 
 // The case on a line that ends with a newline, or with no byte behind the name.
-fn case(rt: &HostRuntime, line: &[u8]) {
+fn case(rt: &HostRuntime, start: u8, line: &[u8]) {
     cases::text(line);
-    let name = cases::start_of(line, 1);
-    if line.len() - name < 2 {
-        return;
-    }
-    let first = name + 1;
-    let end = line.len() - 1;
-    run_by_streams(rt, line[0], &line[first..end]);
-}
-
-// The cases of a text, line by line.
-fn all(rt: &HostRuntime, text: &[u8]) {
-    let mut start: usize = 0;
-    while start < text.len() {
-        let next = cases::next_line(text, start);
-        case(rt, &text[start..next]);
-        start = next;
+    if let [_, name @ .., _] = cases::from_field(line, 1) {
+        run_by_streams(rt, start, name);
     }
 }
 
 fn main(rt: HostRuntime) {
-    let mut text = io::large_buffer();
-    let length = io::read_full(STDIN, &mut text);
-    all(&rt, &text[..length]);
+    cases::for_each_line(|start, line| case(&rt, start, line));
 }

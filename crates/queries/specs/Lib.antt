@@ -1,1 +1,1 @@
-pub mod StretchBounds
+pub mod Halving

@@ -1,6 +1,6 @@
 -- Reading of a table of any kind: what it refuses, reading refuses; and what it tells of the table where it refuses nothing.
 use Prim.Native.Nat.{ℕ, ◌≤◌, ◌<◌}
-use mathlib.Core.Path.{◌≡◌, refl, sym, ap, ◌∙◌}
+use mathlib.Core.Path.{◌≡◌, refl, sym, ◌∙◌}
 use mathlib.Core.Logic.{inl, inr, ⊎_elim}
 use mathlib.Core.Bool.{Bool, true, false}
 use mathlib.Core.List.{List}
@@ -9,49 +9,22 @@ use Rattle.base.specs.Limits.{max_tasks, last_frame}
 use Rattle.base.specs.Tests.{or}
 use Rattle.base.proofs.TestLaws.{cases, both_absurd, or_left, or_right, or_second}
 use Rattle.bits.proofs.RowLaws.{fields_fit}
-use Rattle.table.specs.declared.Answer.TheVariants.{Accepted, Window}
-use Rattle.table.specs.declared.Reading.{Reading}
-use Rattle.table.specs.Tables.{task_at, no_table, table_of}
+use Rattle.std.specs.Prelude.{Ok, Err}
+use Rattle.table.specs.declared.Table.{Table}
+use Rattle.table.specs.declared.Refusal.{Refusal}
+use Rattle.table.specs.declared.Refusal.TheVariants.{Window}
+use Rattle.table.specs.Tables.{task_at, table_of}
 use Rattle.table.specs.Layout.{task_widths, task_start}
-use Rattle.table.specs.Answers.{is_accepted}
+use Rattle.table.specs.Answers.{Accepted, is_accepted}
 use Rattle.table.specs.Windows.{bad_window}
 use Rattle.table.specs.Kinds.{is_nested, is_similar, bad_window_answer, windows_answer, table_windows_answer}
 use Rattle.table.specs.Reading.{count_in, p_in, q_in, task_from, task_in, table_in, head_answer, read_answer}
-use Rattle.table.proofs.AnswerLaws.{accepted_is, first_refusal-known, refused_none}
+use Rattle.table.proofs.AnswerLaws.{accepted_is, answered_ok-known, answered_err-known, first_refusal-known, refused_none}
 use Rattle.table.proofs.KindLaws.{window_known, window_test}
 use Rattle.table.proofs.RoundTrip.{read_test}
 use Rattle.table.proofs.TableLaws.{task_at-below}
 use Rattle.reading.specs.AnyKind.{any_kind_answer, any_kind_reply}
 use Rattle.reading.proofs.ReadLaws.{head_few, head_accepted}
-
--- What it answers: a header that is refused gives the answer,
-any_kind_head : (s : List ℕ) → is_accepted (head_answer s) ≡ false → head_answer s ≡ any_kind_answer s
-unfolding any_kind_answer
-any_kind_head s e = rw e
-
--- and past it the windows that are bad do.
-any_kind_windows : (s : List ℕ) → head_answer s ≡ Accepted → bad_window_answer (task_at (table_in s)) (table_in s).count ≡ any_kind_answer s
-unfolding any_kind_answer
-any_kind_windows s e = rw e
-
--- So its reply on either is known by its answer and its table.
-pub reply_head : (r : Reading) (s : List ℕ) → is_accepted (head_answer s) ≡ false → r.answer ≡ head_answer s → r.table ≡ no_table → r ≡ any_kind_reply s
-unfolding any_kind_reply
-reply_head r s e a t =
-    let table : r.table ≡ (any_kind_reply s).table = rw e t in
-    λ i. record { answer = (a ∙ any_kind_head s e) i; table = table i }
-
-pub reply_windows : (r : Reading) (s : List ℕ) → head_answer s ≡ Accepted → r.answer ≡ bad_window_answer (task_at (table_in s)) (table_in s).count
-    → r.table ≡ table_in s → r ≡ any_kind_reply s
-unfolding any_kind_reply
-reply_windows r s e a t =
-    let table : r.table ≡ (any_kind_reply s).table = rw e t in
-    λ i. record { answer = (a ∙ any_kind_windows s e) i; table = table i }
-
--- The answer of its reply.
-pub any_kind_answer_lem : (r : Reading) (s : List ℕ) → r ≡ any_kind_reply s → r.answer ≡ any_kind_answer s
-unfolding any_kind_reply
-any_kind_answer_lem r s e = ap (λ (r : Reading). r.answer) e
 
 -- What it refuses, reading refuses.
 pub any_kind_refused : (s : List ℕ) → is_accepted (any_kind_answer s) ≡ false → any_kind_answer s ≡ read_answer s
@@ -64,12 +37,14 @@ any_kind_known : (s : List ℕ) → any_kind_answer s ≡ Accepted → (head_ans
 unfolding any_kind_answer
 any_kind_known s e = first_refusal-known (head_answer s) (bad_window_answer (task_at (table_in s)) (table_in s).count) e
 
--- Then the table of its reply is that of the file.
-pub any_kind_in : (r : Reading) (s : List ℕ) → r ≡ any_kind_reply s → r.answer ≡ Accepted → (any_kind_answer s ≡ Accepted) × (r.table ≡ table_in s)
+-- Then its reply has the table of the file, and else the refusal.
+pub any_kind_in : (t : Table) (s : List ℕ) → Ok t ≡ any_kind_reply s → (any_kind_answer s ≡ Accepted) × (t ≡ table_in s)
 unfolding any_kind_reply
-any_kind_in r s e a =
-    let answer : any_kind_answer s ≡ Accepted = sym (any_kind_answer_lem r s e) ∙ a in
-    (answer, ap (λ (r : Reading). r.table) e ∙ rw (any_kind_known s answer).0)
+any_kind_in t s e = answered_ok-known (any_kind_answer s) (table_in s) t e
+
+pub any_kind_out : (r : Refusal) (s : List ℕ) → Err r ≡ any_kind_reply s → any_kind_answer s ≡ Err r
+unfolding any_kind_reply
+any_kind_out r s e = answered_err-known (any_kind_answer s) (table_in s) r e
 
 -- the deadline frame of a task of a file is one that a table can name
 deadline_named : (s : List ℕ) (start : ℕ) → (task_from s start).deadline ≤ last_frame
@@ -89,7 +64,7 @@ any_kind_table s e =
     let few : count_in s ≤ max_tasks = (head_few s z.0).0 in
     record {
       few = few;
-      good = refused_none Window (λ k. refl) (λ k. bad_window (task_at (table_in s) k)) (table_in s).count z.1;
+      good = refused_none Window (λ k. bad_window (task_at (table_in s) k)) (table_in s).count z.1;
       named = λ k l. rw (task_at-below (count_in s) (p_in s) (q_in s) (task_in s) k few l) (deadline_named s (task_start k));
     }
 

@@ -12,7 +12,7 @@ ghost use Rattle.report.specs.FilePlans.{file_plan};
 use base::{MAX_PLAN_RUNS, MAX_TASKS};
 use lines::MAX_FIELD;
 use plans::Planned;
-use table::FILE_BYTES_READ;
+use table::{FILE_BYTES_READ, Refusal};
 
 // No line is longer: a word of at most 7 bytes, 3 numbers, each with a space, and a newline; definitions say max_line.
 const MAX_LINE: usize = 7 + 3 * MAX_FIELD + 1;
@@ -32,8 +32,7 @@ fn put_drop(out: &mut [u8], at: usize, position: usize) -> usize
     requires { at + length (line drop_word (position ∷ [])) ≤ length out.old }
     ensures { Put (line drop_word (position ∷ [])) at out.old result out.new }
 {
-    let numbers = [position as u64];
-    lines::put_line(out, at, b"DROP", &numbers)
+    lines::put_line(out, at, b"DROP", &[position as u64])
 }
 
 // The DROP lines of a keep list: one for each mark 0, rising.
@@ -42,13 +41,11 @@ fn put_drops(out: &mut [u8], at: usize, marks: &[u8]) -> usize
     ensures { Put (drop_lines marks.now) at out.old result out.new }
 {
     let mut next = at;
-    let mut i: usize = 0;
-    while i < marks.len() {
-        let dropped = marks[i] == 0;
+    for (position, mark) in marks.iter().enumerate() {
+        let dropped = *mark == 0;
         if dropped {
-            next = put_drop(out, next, i);
+            next = put_drop(out, next, position);
         }
-        i += 1;
     }
     next
 }
@@ -58,7 +55,7 @@ fn put_run(out: &mut [u8], at: usize, start: u32, end: u32, task: u32) -> usize
     requires { at + length (line run_word (start ∷ end ∷ task ∷ [])) ≤ length out.old }
     ensures { Put (line run_word (start ∷ end ∷ task ∷ [])) at out.old result out.new }
 {
-    let numbers = [start as u64, end as u64, task as u64];
+    let numbers = [u64::from(start), u64::from(end), u64::from(task)];
     lines::put_line(out, at, b"RUN", &numbers)
 }
 
@@ -69,15 +66,14 @@ pub fn put_runs(out: &mut [u8], at: usize, starts: &[u32], ends: &[u32], tasks: 
     ensures { Put (run_lines (runs_before starts ends tasks)) at out.old result out.new }
 {
     let mut next = at;
-    let mut i: usize = 0;
-    while i < starts.len() {
-        next = put_run(out, next, starts[i], ends[i], tasks[i]);
-        i += 1;
+    for (i, start) in starts.iter().enumerate() {
+        next = put_run(out, next, *start, ends[i], tasks[i]);
     }
     next
 }
 
 // The text of a plan put at the front of a list: the PLAN line with tasks, kept, discarded; the DROP lines; the RUN lines.
+#[tactic(auto, using(printed_plan::proofs::LineLaws::plan_length))]
 fn put_plan(
     out: &mut [u8],
     count: u32,
@@ -93,7 +89,7 @@ fn put_plan(
     ensures { Put (plan_lines count kept discarded marks.now (runs_before starts ends tasks))
         0 out.old result out.new }
 {
-    let numbers = [count as u64, kept as u64, discarded as u64];
+    let numbers = [u64::from(count), u64::from(kept), u64::from(discarded)];
     let drops = lines::put_line(out, 0, b"PLAN", &numbers);
     let runs = put_drops(out, drops, marks);
     put_runs(out, runs, starts, ends, tasks)
@@ -126,11 +122,9 @@ pub fn plan_file(file: &[u8], launch: u32) -> FilePlan
         &mut ends,
         &mut tasks,
     );
-    let reply = planned.reply;
-    let count = planned.count;
     FilePlan {
-        reply,
-        count,
+        reply: planned.reply,
+        count: planned.count,
         marks,
         starts,
         ends,
@@ -139,14 +133,14 @@ pub fn plan_file(file: &[u8], launch: u32) -> FilePlan
 }
 
 // Prints a refusal at the front of a lent list: its number and place. A list shorter than MAX_TEXT is left as it is, and the reply is 0.
+#[tactic(auto, using(printed_plan::proofs::PrintLaws::prints_none, printed_plan::proofs::TextLaws::refusal_length), unfolding(printed_plan::specs::Printing::refusal_text))]
 pub fn print_refusal(out: &mut [u8], number: u32, place: usize) -> usize
     ensures { PrintsWithin (refusal_text number place) out.old result out.new }
 {
     if out.len() < MAX_TEXT {
         return 0;
     }
-    let numbers = [number as u64, place as u64];
-    lines::put_line(out, 0, b"REFUSED", &numbers)
+    lines::put_line(out, 0, b"REFUSED", &[u64::from(number), place as u64])
 }
 
 // Plans a file at a launch tick and prints its plan or its refusal at the front of a lent list; the number of bytes printed. A list shorter than
@@ -162,38 +156,26 @@ pub fn print(file: &[u8], launch: u32, out: &mut [u8]) -> usize
     if reply.number != 0 {
         return print_refusal(out, reply.number, reply.place);
     }
-    let count = plan.count;
-    let places = count as usize;
     let runs = reply.runs;
-    let marks = plan.marks;
-    let starts = plan.starts;
-    let ends = plan.ends;
-    let tasks = plan.tasks;
     put_plan(
         out,
-        count,
+        plan.count,
         reply.kept,
         reply.discarded,
-        &marks[..places],
-        &starts[..runs],
-        &ends[..runs],
-        &tasks[..runs],
+        &plan.marks[..plan.count as usize],
+        &plan.starts[..runs],
+        &plan.ends[..runs],
+        &plan.tasks[..runs],
     )
 }
 
-// The number of four bytes, high byte first.
-fn four_bytes(first: u8, second: u8, third: u8, last: u8) -> u32
-    ensures { result ≡ ((first * 256 + second) * 256 + third) * 256 + last }
-{
-    ((first as u32 * 256 + second as u32) * 256 + third as u32) * 256 + last as u32
-}
-
 // The number at the front of some bytes: 4 of them, high byte first.
+#[tactic(auto, unfolding(printed_plan::specs::ProgramInput::number_in))]
 pub fn number_in(bytes: &[u8]) -> u32
     requires { number_bytes ≤ length bytes.now }
     ensures { result ≡ number_in bytes.now }
 {
-    four_bytes(bytes[0], bytes[1], bytes[2], bytes[3])
+    u32::from_be_bytes([bytes[0], bytes[1], bytes[2], bytes[3]])
 }
 
 // Prints what an input gets: that of the file behind its launch tick, or, where it is too short for one, refusal 1 with the input's length. A list
@@ -202,7 +184,8 @@ pub fn print_input(input: &[u8], out: &mut [u8]) -> usize
     ensures text { PrintsWithin (plan_output input.now) out.old result out.new }
 {
     if input.len() < NUMBER_BYTES {
-        return print_refusal(out, 1, input.len());
+        let refusal = Refusal::Short(input.len());
+        return print_refusal(out, refusal.number(), refusal.place());
     }
     let launch = number_in(input);
     print(&input[NUMBER_BYTES..], launch, out)

@@ -6,13 +6,12 @@
 // that starts with `short` has bytes that are printed, as a file and as an input, into a list of 100 bytes.
 #![tactic(auto)]
 
-use cases::STDIN;
 use report::{INPUT_BYTES, MAX_TEXT};
 
 // Prints the bytes at the front of a list, and a line behind them.
 fn show_front(text: [u8; MAX_TEXT], count: usize) {
-    if count <= MAX_TEXT {
-        cases::text(&text[..count]);
+    if let Some(printed) = text.get(..count) {
+        cases::text(printed);
     }
     cases::text(b"--\n");
 }
@@ -63,18 +62,6 @@ fn case(start: u8, line: &[u8]) {
     }
 }
 
-// The cases of a text, line by line.
-fn all(text: &[u8]) {
-    let mut start: usize = 0;
-    while start < text.len() {
-        let next = cases::next_line(text, start);
-        case(text[start], &text[start..next]);
-        start = next;
-    }
-}
-
 fn main() {
-    let mut text = io::large_buffer();
-    let length = io::read_full(STDIN, &mut text);
-    all(&text[..length]);
+    cases::for_each_line(case);
 }

@@ -14,19 +14,17 @@ use Rattle.base.proofs.MemberLaws.{all_append}
 use Rattle.table.specs.declared.Task.{Task}
 use Rattle.table.specs.declared.Table.{Table}
 use Rattle.table.specs.declared.Written.{Written}
-use Rattle.table.specs.declared.Answer.TheVariants.{Accepted}
-use Rattle.table.specs.declared.Reading.{Reading}
+use Rattle.table.specs.Answers.{Accepted, number_of, place_of}
+use Rattle.table.specs.Reading.{Reading, plain_read, read_reply}
 use Rattle.table.specs.Tables.{table_of}
-use Rattle.table.specs.Answers.{number_of, place_of}
-use Rattle.table.specs.Reading.{plain_read, read_reply}
 use Rattle.table.specs.Writing.{file_of, write_reply}
 use Rattle.table.proofs.TableLaws.{table_of-canonical}
 use Rattle.table.proofs.FileLaws.{accepted_legal}
 use Rattle.table.proofs.RoundTrip.{written_read}
 use Rattle.table.specs.TableSamples.{task, p8_table, p8_file}
-use Rattle.schedule.specs.declared.RunsAnswer.TheVariants as checked
 use Rattle.schedule.specs.Runs.{too_many}
 use Rattle.schedule.specs.Judging.{none_empty, follow_from, each_follows}
+use Rattle.schedule.specs.RunCheck as checked
 use Rattle.schedule.specs.RunCheck.{check_answer, runs_number, runs_place}
 use Rattle.schedule.specs.BusyCount.{shared, busy_sum, busy_reply}
 use Rattle.schedule.specs.Queries.{touching, stretch_of}

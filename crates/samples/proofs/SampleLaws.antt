@@ -7,15 +7,15 @@ use native.Mathlib.Omega.{arith}
 use lib.Dec.{eqb}
 use lib.ListN.{length}
 use borrow.Author.Tests.{eqb-true, eq-eqb}
+use Rattle.std.specs.Prelude.{Ok, Err}
 use Rattle.base.specs.Tests.{pick, and}
 use Rattle.base.specs.Members.{All}
 use Rattle.base.proofs.MemberLaws.{all_append}
 use Rattle.clock.specs.Clock.{release_tick, deadline_tick}
 use Rattle.table.specs.declared.Table.{Table}
-use Rattle.table.specs.declared.Answer.{Answer}
-use Rattle.table.specs.declared.Answer.TheVariants.{Accepted, Short, Count, Long, Padding, Period, Window, Kind, Weight}
+use Rattle.table.specs.Answers.{Answer, number_of, place_of}
+use Rattle.table.specs.declared.Refusal.TheVariants.{Short, Count, Long, Padding, Period, Window, Kind, Weight}
 use Rattle.table.specs.Tables.{table_of, task_at}
-use Rattle.table.specs.Answers.{number_of, place_of}
 use Rattle.table.specs.Kinds.{nesting_answer}
 use Rattle.table.specs.Reading.{one_each, plain_read, table_in}
 use Rattle.table.specs.Writing.{file_of}
@@ -81,23 +81,23 @@ plan_says s e =
     e
 
 -- an answer of number 7 names a place and nothing else
-seven_place : (answer : Answer) → number_of answer ≡ 7 → answer ≡ Kind (place_of answer)
-seven_place Accepted e = absurd (omega arith)
-seven_place (Short length) e = absurd (omega arith)
-seven_place Count e = absurd (omega arith)
-seven_place (Long needed) e = absurd (omega arith)
-seven_place Padding e = absurd (omega arith)
-seven_place Period e = absurd (omega arith)
-seven_place (Window position) e = absurd (omega arith)
-seven_place (Kind position) e = refl
-seven_place (Weight position) e = absurd (omega arith)
+seven_place : (answer : Answer) → number_of answer ≡ 7 → answer ≡ Err (Kind (place_of answer))
+seven_place (Ok accepted) e = absurd (omega arith)
+seven_place (Err (Short length)) e = absurd (omega arith)
+seven_place (Err Count) e = absurd (omega arith)
+seven_place (Err (Long needed)) e = absurd (omega arith)
+seven_place (Err Padding) e = absurd (omega arith)
+seven_place (Err Period) e = absurd (omega arith)
+seven_place (Err (Window position)) e = absurd (omega arith)
+seven_place (Err (Kind position)) e = refl
+seven_place (Err (Weight position)) e = absurd (omega arith)
 
 -- what the test of a 7 says
-kind_holds : (answer : Answer) (place : ℕ) → kind_met answer place ≡ true → answer ≡ Kind place
+kind_holds : (answer : Answer) (place : ℕ) → kind_met answer place ≡ true → answer ≡ Err (Kind place)
 unfolding kind_met
 kind_holds answer place e =
     let z = both (eqb (number_of answer) 7) (eqb (place_of answer) place) (eqb-true _ _) (eqb-true _ _) e in
-    seven_place answer z.0 ∙ ap {B = Answer} (λ (k : ℕ). Kind k) z.1
+    seven_place answer z.0 ∙ ap {B = Answer} (λ (k : ℕ). Err (Kind k)) z.1
 
 -- what the test of any sample says
 sample_says : (s : Sample) → sample_met s ≡ true → Says s

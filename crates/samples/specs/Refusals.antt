@@ -15,12 +15,11 @@ use Rattle.table.specs.TableSamples.{task, table, p4_file, p8_file}
 use Rattle.schedule.specs.declared.Judged.{Judged}
 use Rattle.schedule.specs.declared.Busy.{Busy}
 use Rattle.schedule.specs.declared.Run.{Run}
-use Rattle.schedule.specs.declared.Found.{Found}
 use Rattle.schedule.specs.Ticks.{one_if}
 use Rattle.schedule.specs.Judging.{judge_reply}
 use Rattle.schedule.specs.BusyCount.{busy_reply}
 use Rattle.schedule.specs.RunCheck.{check_answer, runs_number, runs_place}
-use Rattle.schedule.specs.Queries.{run_at_tick, run_from_tick, found_number, found_place, is_found, run_found, touching, stretch_of}
+use Rattle.schedule.specs.Queries.{Found, run_at_tick, run_from_tick, found_number, found_place, is_found, run_found, touching, stretch_of}
 use Rattle.plans.specs.declared.Planned.{Planned}
 use Rattle.plans.specs.Planning.{LentLists, lists_for, plan_reply, lists_left}
 use Rattle.printed_plan.specs.Printing.{max_line, max_text, PrintsWithin}

@@ -6,9 +6,8 @@ use Rattle.clock.specs.Clock.{release_tick, deadline_tick}
 use Rattle.table.specs.declared.Task.{Task}
 use Rattle.table.specs.declared.Table.{Table}
 use Rattle.table.specs.declared.Written.{Written}
-use Rattle.table.specs.declared.Answer.{Answer}
+use Rattle.table.specs.Answers.{Answer, number_of, place_of}
 use Rattle.table.specs.Tables.{task_at, task_row}
-use Rattle.table.specs.Answers.{number_of, place_of}
 use Rattle.table.specs.Kinds.{nesting_answer}
 use Rattle.table.specs.Reading.{one_each, plain_read, table_in, read_reply}
 use Rattle.table.specs.Writing.{file_of, write_reply, written_over}

@@ -3,12 +3,12 @@
 -- P1 to P12 are 14 rows: the tables of document 01, planned with the clock of request 3 of document 02. P9's windows are accepted since request 1, and its
 -- lengths, which document 01 leaves open, are chosen here. Nine rows are added here for what request 1 says of similar tables, six for the launch tick of
 -- request 2, and sixteen for request 3: what samples of document 01 showed with its own clock, and windows without a tick.
-use Rattle.std.specs.Prelude.{ℕ, ◌≡◌, List, [], ◌∷◌, ◌++◌, map, length, ℤ, negsuc}
+use Rattle.std.specs.Prelude.{ℕ, ◌≡◌, List, [], ◌∷◌, ◌++◌, map, length, ℤ, negsuc, Err}
 use Rattle.lines.specs.Ascii.{text_of}
 use Rattle.clock.specs.ClockSamples.{ClockSample, clock_samples, ClockSays}
 use Rattle.table.specs.declared.Table.{Table}
 use Rattle.table.specs.declared.Written.{Written}
-use Rattle.table.specs.declared.Answer.TheVariants.{Kind}
+use Rattle.table.specs.declared.Refusal.TheVariants.{Kind}
 use Rattle.table.specs.Tables.{task_at}
 use Rattle.table.specs.Kinds.{nesting_answer}
 use Rattle.table.specs.Reading.{one_each, plain_read, table_in}
@@ -355,4 +355,4 @@ Says (window s) =
     ((job_at s.launch s.table s.position).release ≡ s.release) × ((job_at s.launch s.table s.position).deadline ≡ s.deadline)
 Says (move s) = FileHolds s.file s.table × (move_reply s.file s.shift (length s.file) ≡ s.reply)
 Says (text s) = plan_output s.input ≡ s.text
-Says (nesting s) = nesting_answer (task_at s.table) s.table.count ≡ Kind s.place
+Says (nesting s) = nesting_answer (task_at s.table) s.table.count ≡ Err (Kind s.place)

@@ -7,11 +7,10 @@ use native.Mathlib.Omega.{arith}
 use native.Mathlib.Decide.{dec_le}
 use Rattle.schedule.specs.declared.Busy.{Busy}
 use Rattle.schedule.specs.declared.Run.{Run}
-use Rattle.schedule.specs.declared.RunsAnswer.TheVariants as checked
 use Rattle.schedule.specs.Ticks.{is_owned, count_below, count_between, ticks_owned}
 use Rattle.schedule.specs.Runs.{run_holds, owner_of}
 use Rattle.schedule.specs.Judging.{none_empty, follow_from, each_follows}
-use Rattle.schedule.specs.RunCheck.{check_answer}
+use Rattle.schedule.specs.RunCheck.{Accepted, check_answer}
 use Rattle.schedule.specs.BusyCount.{shared, busy_sum, busy_reply, CountsTicks}
 use Rattle.schedule.proofs.TickLaws.{count_grows, count_fits}
 use Rattle.schedule.proofs.RunLaws.{run_count, rest_nonempty, rest_follow, own_count, free_count}
@@ -68,7 +67,7 @@ sum_ordered from (run ∷ runs) ne fo a b h =
     )
 
 -- so it is of every accepted list, and every interval
-pub sum_owned : (runs : List Run) → check_answer runs ≡ checked.Accepted → (a b : ℕ) → busy_sum a b runs ≡ ticks_owned (owner_of runs) a b
+pub sum_owned : (runs : List Run) → check_answer runs ≡ Accepted → (a b : ℕ) → busy_sum a b runs ≡ ticks_owned (owner_of runs) a b
 unfolding each_follows
 sum_owned runs accepted a b =
     let order = accepted_ordered runs accepted in
@@ -79,7 +78,7 @@ sum_owned runs accepted a b =
     ]
 
 -- and at most the length of the interval
-pub sum_most : (runs : List Run) → check_answer runs ≡ checked.Accepted → (a b : ℕ) → busy_sum a b runs ≤ b - a
+pub sum_most : (runs : List Run) → check_answer runs ≡ Accepted → (a b : ℕ) → busy_sum a b runs ≤ b - a
 sum_most runs accepted a b = omega (arith, sum_owned runs accepted a b, count_fits (λ tick. is_owned (owner_of runs tick)) a b)
 
 -- an accepted count is that number

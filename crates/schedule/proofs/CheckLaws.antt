@@ -9,39 +9,39 @@ use native.Mathlib.Decide.{dec_lt, le_ind}
 use lib.Dec.{leb, ltb}
 use lib.ListN.{length, get_or}
 use borrow.Author.Tests.{ltb-true, ltb-false, lt-ltb, le-ltb, le-leb, not-false}
+use Rattle.std.specs.Prelude.{Ok, Err}
 use Rattle.base.specs.Members.{All}
 use Rattle.base.proofs.TestLaws.{cases, both_absurd, and_true, or_false, or_left, or_right}
 use Rattle.base.proofs.LowestLaws.{before, none_passes, lowest_bound}
 use Rattle.base.proofs.MemberLaws.{all_at}
 use Rattle.schedule.specs.declared.Run.{Run}
-use Rattle.schedule.specs.declared.RunsAnswer.{RunsAnswer}
-use Rattle.schedule.specs.declared.RunsAnswer.TheVariants as checked
+use Rattle.schedule.specs.declared.RunsRefusal.TheVariants.{TooMany, OutOfOrder}
 use Rattle.schedule.specs.Runs.{no_run, too_many}
 use Rattle.schedule.specs.Judging.{none_empty, follow_from, each_follows}
-use Rattle.schedule.specs.RunCheck.{previous_end, out_of_order, first_out_of_order, check_answer, runs_number, runs_accepted}
+use Rattle.schedule.specs.RunCheck.{RunsChecked, Accepted, previous_end, out_of_order, first_out_of_order, check_answer, runs_number, runs_accepted}
 use Rattle.schedule.proofs.RunLaws.{first_follows, rest_follow}
 use Rattle.schedule.proofs.JudgeLaws.{nonempty_each}
 
 -- The three answers.
 
 -- too many runs are refused first, whatever they are
-pub many_refused : (runs : List Run) → too_many runs ≡ true → check_answer runs ≡ checked.TooMany
+pub many_refused : (runs : List Run) → too_many runs ≡ true → check_answer runs ≡ Err TooMany
 unfolding check_answer
 many_refused runs e = rw e
 
 -- then the first index that is out of order
 pub order_refused : (runs : List Run) → too_many runs ≡ false → first_out_of_order runs < length runs
-    → check_answer runs ≡ checked.OutOfOrder (first_out_of_order runs)
+    → check_answer runs ≡ Err (OutOfOrder (first_out_of_order runs))
 unfolding check_answer
 order_refused runs e l = rw (e, lt-ltb (first_out_of_order runs) (length runs) l)
 
 -- and where no index is, the list is accepted
-pub accepts : (runs : List Run) → too_many runs ≡ false → length runs ≤ first_out_of_order runs → check_answer runs ≡ checked.Accepted
+pub accepts : (runs : List Run) → too_many runs ≡ false → length runs ≤ first_out_of_order runs → check_answer runs ≡ Accepted
 unfolding check_answer
 accepts runs e l = rw (e, le-ltb (first_out_of_order runs) (length runs) l)
 
 -- only there
-pub accepted_known : (runs : List Run) → check_answer runs ≡ checked.Accepted → (too_many runs ≡ false) × (first_out_of_order runs ≡ length runs)
+pub accepted_known : (runs : List Run) → check_answer runs ≡ Accepted → (too_many runs ≡ false) × (first_out_of_order runs ≡ length runs)
 unfolding first_out_of_order
 accepted_known runs h =
     cases (too_many runs)
@@ -53,15 +53,14 @@ accepted_known runs h =
     ])
 
 -- the one answer that accepts, and the one whose number is 0
-pub accepted_is : (answer : RunsAnswer) → runs_accepted answer ≡ true → answer ≡ checked.Accepted
-accepted_is checked.Accepted e = refl
-accepted_is checked.TooMany e = both_absurd false e refl
-accepted_is (checked.OutOfOrder index) e = both_absurd false e refl
+pub accepted_is : (answer : RunsChecked) → runs_accepted answer ≡ true → answer ≡ Accepted
+accepted_is (Ok done) e = refl
+accepted_is (Err refusal) e = both_absurd false e refl
 
-pub number_accepted : (answer : RunsAnswer) → runs_number answer ≡ 0 → answer ≡ checked.Accepted
-number_accepted checked.Accepted e = refl
-number_accepted checked.TooMany e = absurd (omega arith)
-number_accepted (checked.OutOfOrder index) e = absurd (omega arith)
+pub number_accepted : (answer : RunsChecked) → runs_number answer ≡ 0 → answer ≡ Accepted
+number_accepted (Ok done) e = refl
+number_accepted (Err TooMany) e = absurd (omega arith)
+number_accepted (Err (OutOfOrder index)) e = absurd (omega arith)
 
 -- Each run of a list starts below its end, and none starts before the one listed before it ends.
 pub record OrderedRuns (runs : List Run) : Type 0 where
@@ -100,7 +99,7 @@ ordered_exactly runs = (
     previous-ended runs o (suc k) l = o.follow k l
 
 -- an accepted list is ordered
-pub accepted_order : (runs : List Run) → check_answer runs ≡ checked.Accepted → OrderedRuns runs
+pub accepted_order : (runs : List Run) → check_answer runs ≡ Accepted → OrderedRuns runs
 accepted_order runs h = (ordered_exactly runs).0 (accepted_known runs h).1
 
 -- Of an ordered list starts and ends do not fall with the index.
@@ -175,8 +174,8 @@ order_conditions runs = (
 )
 
 -- they hold of every accepted list, and a list of which they hold is accepted, if its runs are not too many
-pub accepted_ordered : (runs : List Run) → check_answer runs ≡ checked.Accepted → (none_empty runs ≡ true) × (each_follows runs ≡ true)
+pub accepted_ordered : (runs : List Run) → check_answer runs ≡ Accepted → (none_empty runs ≡ true) × (each_follows runs ≡ true)
 accepted_ordered runs h = (judge_order runs).0 (accepted_order runs h)
 
-pub ordered_accepted : (runs : List Run) → too_many runs ≡ false → (none_empty runs ≡ true) × (each_follows runs ≡ true) → check_answer runs ≡ checked.Accepted
+pub ordered_accepted : (runs : List Run) → too_many runs ≡ false → (none_empty runs ≡ true) × (each_follows runs ≡ true) → check_answer runs ≡ Accepted
 ordered_accepted runs few h = let e = (order_conditions runs).1 h in accepts runs few (omega arith)

@@ -15,8 +15,7 @@ use Rattle.base.proofs.TestLaws.{cases, and_true, and_left, and_right}
 use Rattle.base.proofs.LowestLaws.{every_below_lem}
 use Rattle.clock.specs.Clock.{bad_launch}
 use Rattle.table.specs.declared.Table.{Table}
-use Rattle.table.specs.declared.Answer.{Answer}
-use Rattle.table.specs.Answers.{number_of, is_accepted}
+use Rattle.table.specs.Answers.{Answer, number_of, is_accepted}
 use Rattle.table.specs.Reading.{ReadTable}
 use Rattle.table.proofs.AnswerLaws.{refused_number}
 use Rattle.schedule.specs.declared.Job.{Job}

@@ -6,17 +6,17 @@ use mathlib.Core.List.{List, [], ◌∷◌}
 use native.Mathlib.Omega.{arith}
 use native.Mathlib.Decide.{ℕ_discrete, dec_lt}
 use lib.Dec.{leb, ltb}
-use lib.ListN.{length, get_or, set, replicate, length-set, length-replicate, get_or-replicate, get_or-eq_default}
-use lib.Seq.{get_or-set_same, get_or-set_other}
+use native.Mathlib.Numerals.{add-one}
+use lib.ListN.{length, get_or, set, drop, drop_of_length-le, replicate, length-set, length-replicate, get_or-replicate, get_or-eq_default}
+use lib.Seq.{get_or-set_same, get_or-set_other, drop-cons}
 use borrow.Author.Tests.{le-ltb, lt-ltb, eq-eqb, ne_eqb}
 use Rattle.base.specs.Limits.{max_tasks}
 use Rattle.base.specs.Tests.{and}
-use Rattle.base.specs.Places.{places_from, places}
 use Rattle.base.proofs.TestLaws.{and_left, and_right, same_test}
-use Rattle.base.proofs.PlaceLaws.{left_start, left_step, left_end}
 use Rattle.base.specs.Members.{every_member}
 use Rattle.schedule.specs.declared.Job.{Job}
 use Rattle.schedule.specs.declared.Run.{Run}
+use Rattle.schedule.specs.Runs.{no_run}
 use Rattle.schedule.specs.Judging.{none_empty, follow_from, known_tasks, in_windows, total_of}
 use Rattle.schedule.specs.Passing.{passes, run_fits}
 
@@ -61,12 +61,12 @@ passes_none : (job : ℕ → Job) (n from : ℕ) → passes job n from [] ≡ tr
 unfolding passes every_member follow_from
 passes_none job n from = refl
 
--- Before run i of `len` runs: those before it passed, the next may start at tick `from`, and the totals are those of the runs before it.
-pub record PassedUpTo (job : ℕ → Job) (n : ℕ) (at : ℕ → Run) (len : ℕ) (totals : List ℕ) (from i : ℕ) : Type 0 where
-  pub within : i ≤ len
-  pub left : passes job n from (places_from at i (len - i)) ≡ passes job n 0 (places at len)
+-- Before run i: those before it passed, the next may start at tick `from`, and the totals are those of the runs before it.
+pub record PassedUpTo (job : ℕ → Job) (n : ℕ) (runs : List Run) (totals : List ℕ) (from i : ℕ) : Type 0 where
+  pub within : i ≤ length runs
+  pub left : passes job n from (drop i runs) ≡ passes job n 0 runs
   pub length_is : length totals ≡ max_tasks
-  pub sums : (k : ℕ) → k < max_tasks → get_or totals k 0 + total_of (places_from at i (len - i)) k ≡ total_of (places at len) k
+  pub sums : (k : ℕ) → k < max_tasks → get_or totals k 0 + total_of (drop i runs) k ≡ total_of runs k
   pub small : (k : ℕ) → get_or totals k 0 ≤ i * 2 ^ 32
 
 -- the totals at the beginning
@@ -83,55 +83,62 @@ blank_at k =
       | no l ↦ get_or-eq_default blank 0 {n = k} (omega (arith, blank_length))
     ]
 
-pub passed_start : (job : ℕ → Job) (n : ℕ) (at : ℕ → Run) (len : ℕ) → PassedUpTo job n at len blank 0 0
-passed_start job n at len =
+pub passed_start : (job : ℕ → Job) (n : ℕ) (runs : List Run) → PassedUpTo job n runs blank 0 0
+passed_start job n runs =
     record {
       within = omega arith;
-      left = ap (passes job n 0) (left_start at len);
+      left = refl;
       length_is = blank_length;
-      sums = λ k l. omega (arith, blank_at k, ap (λ (runs : List Run). total_of runs k) (left_start at len));
+      sums = λ k l. omega (arith, blank_at k);
       small = λ k. omega (arith, blank_at k);
     }
 
-module _ (job : ℕ → Job) (n : ℕ) (at : ℕ → Run) (len : ℕ) (totals : List ℕ) (from i : ℕ) (p : PassedUpTo job n at len totals from i) where
+module _ (job : ℕ → Job) (n : ℕ) (runs : List Run) (totals : List ℕ) (from i : ℕ) (p : PassedUpTo job n runs totals from i) where
+  -- the run whose turn it is, and those after it
+  abbrev run : Run
+  run = get_or runs i no_run
+
+  abbrev rest : List Run
+  rest = drop (i + 1) runs
+
+  ahead : i < length runs → drop i runs ≡ run ∷ rest
+  ahead l = rw add-one (drop-cons runs i no_run l)
+
   -- where a run is left, the runs pass if it does and the others after it
-  next : i < len → and (ltb (at i).task n) (and (run_fits (job (at i).task) from (at i).start (at i).end) (passes job n (at i).end (places_from at (i + 1) (len - (i + 1))))) ≡ passes job n 0 (places at len)
-  next l =
-      sym (passes_cons job n from (at i) (places_from at (i + 1) (len - (i + 1))))
-      ∙ (ap (passes job n from) (sym (left_step at len i l)) ∙ p.left)
+  next : i < length runs → and (ltb run.task n) (and (run_fits (job run.task) from run.start run.end) (passes job n run.end rest)) ≡ passes job n 0 runs
+  next l = sym (passes_cons job n from run rest) ∙ (ap (passes job n from) (sym (ahead l)) ∙ p.left)
 
   -- a task that is not in the table
-  pub passed_task : i < len → n ≤ (at i).task → false ≡ passes job n 0 (places at len)
-  passed_task l h = rw (le-ltb (at i).task n h) at (next l)
+  pub passed_task : i < length runs → n ≤ run.task → passes job n 0 runs ≡ false
+  passed_task l h = sym (rw (le-ltb run.task n h) at (next l))
 
   -- a run that does not fit
-  pub passed_run : i < len → (at i).task < n → run_fits (job (at i).task) from (at i).start (at i).end ≡ false → false ≡ passes job n 0 (places at len)
-  passed_run l h e = rw (lt-ltb (at i).task n h, e) at (next l)
+  pub passed_run : i < length runs → run.task < n → run_fits (job run.task) from run.start run.end ≡ false → passes job n 0 runs ≡ false
+  passed_run l h e = sym (rw (lt-ltb run.task n h, e) at (next l))
 
   -- a run that fits, and its ticks added to its task's total
-  pub passed_step : i < len → (at i).task < n → n ≤ max_tasks → run_fits (job (at i).task) from (at i).start (at i).end ≡ true → (at i).end < 2 ^ 32
-      → PassedUpTo job n at len (set totals (at i).task (get_or totals (at i).task 0 + ((at i).end - (at i).start))) (at i).end (i + 1)
+  pub passed_step : i < length runs → run.task < n → n ≤ max_tasks → run_fits (job run.task) from run.start run.end ≡ true → run.end < 2 ^ 32
+      → PassedUpTo job n runs (set totals run.task (get_or totals run.task 0 + (run.end - run.start))) run.end (i + 1)
   passed_step l h m e w =
-      let task : ℕ = (at i).task in
-      let rest : List Run = places_from at (i + 1) (len - (i + 1)) in
-      let value : ℕ = get_or totals task 0 + ((at i).end - (at i).start) in
+      let task : ℕ = run.task in
+      let value : ℕ = get_or totals task 0 + (run.end - run.start) in
       let there : get_or (set totals task value) task 0 ≡ value = get_or-set_same totals task value 0 (omega (arith, p.length_is)) in
       record {
         within = omega arith;
-        left = rw (lt-ltb (at i).task n h, e) at (next l);
+        left = rw (lt-ltb run.task n h, e) at (next l);
         length_is = length-set totals task value ∙ p.length_is;
         sums = λ k b.
-            let before : get_or totals k 0 + total_of (at i ∷ rest) k ≡ total_of (places at len) k =
-            ap (λ (runs : List Run). get_or totals k 0 + total_of runs k) (sym (left_step at len i l)) ∙ p.sums k b in
+            let before : get_or totals k 0 + total_of (run ∷ rest) k ≡ total_of runs k =
+            ap (λ (runs : List Run). get_or totals k 0 + total_of runs k) (sym (ahead l)) ∙ p.sums k b in
             elim (ℕ_discrete task k) [
               | yes s ↦
                   let here : get_or (set totals task value) k 0 ≡ value = ap (λ (j : ℕ). get_or (set totals task value) j 0) (sym s) ∙ there in
-                  let total : total_of (at i ∷ rest) k ≡ ((at i).end - (at i).start) + total_of rest k = rw (eq-eqb task k s) in
+                  let total : total_of (run ∷ rest) k ≡ (run.end - run.start) + total_of rest k = rw (eq-eqb task k s) in
                   let same : get_or totals task 0 ≡ get_or totals k 0 = ap (λ (j : ℕ). get_or totals j 0) s in
                   omega (arith, here, total, same, before)
               | no s ↦
                   let other : get_or (set totals task value) k 0 ≡ get_or totals k 0 = get_or-set_other totals task k value 0 (λ q. s (sym q)) in
-                  let total : total_of (at i ∷ rest) k ≡ 0 + total_of rest k = rw (ne_eqb task k s) in
+                  let total : total_of (run ∷ rest) k ≡ 0 + total_of rest k = rw (ne_eqb task k s) in
                   omega (arith, other, total, before)
             ];
         small = λ k.
@@ -146,10 +153,13 @@ module _ (job : ℕ → Job) (n : ℕ) (at : ℕ → Run) (len : ℕ) (totals : 
       }
 
   -- no run is left: all passed, and the totals are those of all runs
-  pub passed_all : len ≤ i → true ≡ passes job n 0 (places at len)
-  passed_all l = sym (passes_none job n from) ∙ (ap (passes job n from) (sym (left_end at len i l)) ∙ p.left)
+  none_left : length runs ≤ i → drop i runs ≡ []
+  none_left l = drop_of_length-le runs l
 
-  pub passed_totals : len ≤ i → (k : ℕ) → k < max_tasks → get_or totals k 0 ≡ total_of (places at len) k
+  pub passed_all : length runs ≤ i → passes job n 0 runs ≡ true
+  passed_all l = sym p.left ∙ (ap (passes job n from) (none_left l) ∙ passes_none job n from)
+
+  pub passed_totals : length runs ≤ i → (k : ℕ) → k < max_tasks → get_or totals k 0 ≡ total_of runs k
   passed_totals l k b =
-      let none : total_of (places_from at i (len - i)) k ≡ 0 = ap (λ (runs : List Run). total_of runs k) (left_end at len i l) in
+      let none : total_of (drop i runs) k ≡ 0 = ap (λ (runs : List Run). total_of runs k) (none_left l) in
       omega (arith, none, p.sums k b)

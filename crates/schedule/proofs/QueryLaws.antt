@@ -1,28 +1,25 @@
 -- What the queries answer, in the words of the ticks that a run holds.
 use Prim.Native.Nat.{ℕ, zero, suc, ◌+◌, ◌≤◌, ◌<◌, max}
-use mathlib.Core.Path.{◌≡◌, refl, sym, ap, ◌∙◌}
+use mathlib.Core.Path.{◌≡◌, sym, ap, ◌∙◌}
 use mathlib.Core.Logic.{◌↔◌, inl, inr}
 use mathlib.Core.List.{List, [], ◌∷◌}
 use mathlib.Core.Bool.{Bool, true, false}
-use mathlib.Core.Option.{Option, none, some}
 use native.Mathlib.Omega.{arith}
 use native.Mathlib.Decide.{dec_lt}
 use lib.Dec.{eqb}
 use lib.ListN.{length, get_or, take, drop}
 use borrow.Author.Tests.{leb-true, leb-false, le-leb, lt-leb, eqb-true}
+use Rattle.std.specs.Prelude.{Option, Some, None, Ok}
 use Rattle.base.specs.Lowest.{lowest}
 use Rattle.base.specs.Members.{All, Any}
 use Rattle.base.proofs.TestLaws.{cases, pick_same, pick_cases}
 use Rattle.base.proofs.LowestLaws.{before, passes}
 use Rattle.base.proofs.MemberLaws.{all_map, all_at}
 use Rattle.schedule.specs.declared.Run.{Run}
-use Rattle.schedule.specs.declared.RunsAnswer.TheVariants as checked
-use Rattle.schedule.specs.declared.Found.{Found}
-use Rattle.schedule.specs.declared.Found.TheVariants as found
 use Rattle.schedule.specs.declared.Stretch.{Stretch}
 use Rattle.schedule.specs.Runs.{no_run, run_holds}
-use Rattle.schedule.specs.RunCheck.{check_answer, runs_accepted}
-use Rattle.schedule.specs.Queries.{first_run, starts_from_tick, after_check, found_first, run_at_tick, run_from_tick, HoldsTick, FirstFrom}
+use Rattle.schedule.specs.RunCheck.{Accepted, check_answer, runs_accepted}
+use Rattle.schedule.specs.Queries.{Found, first_run, starts_from_tick, after_check, found_first, run_at_tick, run_from_tick, HoldsTick, FirstFrom}
 use Rattle.schedule.specs.Queries.{touches, touching, stretch_of, SharesTick, TouchingStretch}
 use Rattle.schedule.proofs.RunLaws.{run_holds_lem, in_holds}
 use Rattle.schedule.proofs.CheckLaws.{accepted_is, accepted_order, ends_before, all_indices}
@@ -33,7 +30,7 @@ use Rattle.schedule.proofs.StretchLaws.{interval_stretched, empty_stretched, str
 -- The first run that passes a test.
 
 -- one that is found is at an index, passes, and none before it does
-found_first_lem : (test : Run → Bool) (runs : List Run) (run : Run) → first_run test runs ≡ some run
+found_first_lem : (test : Run → Bool) (runs : List Run) (run : Run) → first_run test runs ≡ Some run
     → (k : ℕ) × (k < length runs) × (get_or runs k no_run ≡ run) × (test run ≡ true) × ((j : ℕ) → j < k → test (get_or runs j no_run) ≡ false)
 found_first_lem test runs run e =
     let at : ℕ → Bool = λ k. test (get_or runs k no_run) in
@@ -50,35 +47,33 @@ found_first_lem test runs run e =
     ]
 
 -- where none is found, none passes
-none_first : (test : Run → Bool) (runs : List Run) → first_run test runs ≡ none → All (λ run. test run ≡ false) runs
+none_first : (test : Run → Bool) (runs : List Run) → first_run test runs ≡ None → All (λ run. test run ≡ false) runs
 unfolding first_run
 none_first test [] e = tt
 none_first test (run ∷ runs) e =
     cases (test run)
-    (λ t. let q : some run ≡ none = rw t at e in let z : ◌≡◌ {A = ℕ} 0 1 = cc in absurd (omega arith))
+    (λ t. let q : Some run ≡ None = rw t at e in let z : ◌≡◌ {A = ℕ} 0 1 = cc in absurd (omega arith))
     (λ t. (t, none_first test runs (rw t at e)))
 
 -- what the answer on an accepted list tells of the run found, or of none
-found_one : (o : Option Run) (run : Run) → after_check checked.Accepted o ≡ found.One run → o ≡ some run
-found_one none run e = cc
-found_one (some other) run e = cc
+found_one : (o : Option Run) (run : Run) → after_check Accepted o ≡ Ok (Some run) → o ≡ Some run
+found_one o run e = cc
 
-found_none : (o : Option Run) → after_check checked.Accepted o ≡ found.None → o ≡ none
-found_none none e = refl
-found_none (some other) e = cc
+found_none : (o : Option Run) → after_check Accepted o ≡ Ok None → o ≡ None
+found_none o e = cc
 
 -- So on an accepted list a run is answered exactly where it stands at an index, passes, and none before it does;
-module _ (test : Run → Bool) (runs : List Run) (accepted : check_answer runs ≡ checked.Accepted) where
-  answered-run : (run : Run) → (found_first test runs ≡ found.One run)
+module _ (test : Run → Bool) (runs : List Run) (accepted : check_answer runs ≡ Accepted) where
+  answered-run : (run : Run) → (found_first test runs ≡ Ok (Some run))
       ↔ ((k : ℕ) × (k < length runs) × (get_or runs k no_run ≡ run) × (test run ≡ true) × ((j : ℕ) → j < k → test (get_or runs j no_run) ≡ false))
   unfolding found_first
   answered-run run = (
     λ e. found_first_lem test runs run (found_one (first_run test runs) run (rw accepted at e)),
-    λ f. rw (accepted, first_some test runs f.0 f.1 (rw f.2 f.3) f.4) (ap found.One f.2),
+    λ f. rw (accepted, first_some test runs f.0 f.1 (rw f.2 f.3) f.4) (ap (λ (run : Run). Ok (Some run)) f.2),
   )
 
   -- and none exactly where none passes
-  answered-none : (found_first test runs ≡ found.None) ↔ All (λ run. test run ≡ false) runs
+  answered-none : (found_first test runs ≡ Ok None) ↔ All (λ run. test run ≡ false) runs
   unfolding found_first
   answered-none = (
     λ e. none_first test runs (found_none (first_run test runs) (rw accepted at e)),
@@ -99,7 +94,7 @@ member_at (other ∷ runs) run (inr m) = let r = member_at runs run m in let l =
 -- The run that holds a tick.
 
 -- of an accepted list, two runs that hold a tick are one
-at_most_one : (runs : List Run) → check_answer runs ≡ checked.Accepted → (tick i k : ℕ) → i < length runs → k < length runs
+at_most_one : (runs : List Run) → check_answer runs ≡ Accepted → (tick i k : ℕ) → i < length runs → k < length runs
     → run_holds (get_or runs i no_run) tick ≡ true → run_holds (get_or runs k no_run) tick ≡ true → i ≡ k
 at_most_one runs accepted tick i k l m e f =
     let o = accepted_order runs accepted in
@@ -196,7 +191,7 @@ touching_none runs a b h =
     (pick_same (runs_accepted (check_answer runs)) [])
 
 -- of an accepted list they stand at indices without a gap
-stands : (runs : List Run) (a b : ℕ) → check_answer runs ≡ checked.Accepted → (first : ℕ) × (count : ℕ) × Stretched (touches a b) runs first count
+stands : (runs : List Run) (a b : ℕ) → check_answer runs ≡ Accepted → (first : ℕ) × (count : ℕ) × Stretched (touches a b) runs first count
 stands runs a b accepted =
     elim (dec_lt a b) [
       | yes h ↦ (_, _, interval_stretched runs a b accepted h)
@@ -204,7 +199,7 @@ stands runs a b accepted =
     ]
 
 -- where they stand is the stretch of the list that they are
-touching_stretch : (runs : List Run) (a b first count : ℕ) → check_answer runs ≡ checked.Accepted → Stretched (touches a b) runs first count
+touching_stretch : (runs : List Run) (a b first count : ℕ) → check_answer runs ≡ Accepted → Stretched (touches a b) runs first count
     → touching runs a b ≡ take count (drop first runs)
 unfolding touching
 touching_stretch runs a b first count accepted s =

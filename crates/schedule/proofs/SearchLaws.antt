@@ -3,21 +3,18 @@ use Prim.Native.Nat.{ℕ, zero, suc, ◌+◌, ◌≤◌, ◌<◌}
 use mathlib.Core.Path.{◌≡◌, refl}
 use mathlib.Core.List.{List, [], ◌∷◌}
 use mathlib.Core.Bool.{Bool, true, false}
-use mathlib.Core.Option.{Option, none, some}
 use native.Mathlib.Omega.{arith}
 use native.Mathlib.Decide.{dec_lt}
 use lib.Dec.{leb}
 use lib.ListN.{length, get_or}
 use borrow.Author.Tests.{leb-true, leb-false, le-leb, lt-leb}
+use Rattle.std.specs.Prelude.{Option, Some, None, Ok, Err}
 use Rattle.base.specs.Lowest.{lowest}
 use Rattle.base.proofs.TestLaws.{both_absurd}
 use Rattle.base.proofs.LowestLaws.{before, passes}
 use Rattle.schedule.specs.declared.Run.{Run}
-use Rattle.schedule.specs.declared.RunsAnswer.{RunsAnswer}
-use Rattle.schedule.specs.declared.RunsAnswer.TheVariants as checked
-use Rattle.schedule.specs.declared.Found.TheVariants as found
 use Rattle.schedule.specs.Runs.{no_run, run_holds}
-use Rattle.schedule.specs.RunCheck.{check_answer, runs_accepted}
+use Rattle.schedule.specs.RunCheck.{RunsChecked, Accepted, check_answer, runs_accepted}
 use Rattle.schedule.specs.Queries.{first_run, after_check, found_first, run_at_tick, run_from_tick, starts_from_tick}
 use Rattle.schedule.proofs.RunLaws.{in_holds, before_holds, after_holds}
 use Rattle.schedule.proofs.CheckLaws.{accepted_order, starts_rise}
@@ -26,27 +23,26 @@ use Rattle.schedule.proofs.CheckLaws.{accepted_order, starts_rise}
 
 -- it stands at the lowest index that passes,
 pub first_some : (test : Run → Bool) (runs : List Run) (k : ℕ) → k < length runs → test (get_or runs k no_run) ≡ true
-    → ((j : ℕ) → j < k → test (get_or runs j no_run) ≡ false) → first_run test runs ≡ some (get_or runs k no_run)
+    → ((j : ℕ) → j < k → test (get_or runs j no_run) ≡ false) → first_run test runs ≡ Some (get_or runs k no_run)
 unfolding first_run
 first_some test [] k l e h = absurd (omega arith)
 first_some test (run ∷ runs) zero l e h = rw e
 first_some test (run ∷ runs) (suc k) l e h = rw (h 0 (omega arith)) (first_some test runs k (omega arith) e (λ j m. h (suc j) (omega arith)))
 
 -- and there is none where no index passes
-pub first_none : (test : Run → Bool) (runs : List Run) → ((k : ℕ) → k < length runs → test (get_or runs k no_run) ≡ false) → first_run test runs ≡ none
+pub first_none : (test : Run → Bool) (runs : List Run) → ((k : ℕ) → k < length runs → test (get_or runs k no_run) ≡ false) → first_run test runs ≡ None
 unfolding first_run
 first_none test [] h = refl
 first_none test (run ∷ runs) h = rw (h 0 (omega arith)) (first_none test runs (λ k l. h (suc k) (omega arith)))
 
 -- where the check refuses the list, the query answers with the refusal alone
-pub first_refused : (test : Run → Bool) (runs : List Run) → runs_accepted (check_answer runs) ≡ false → found_first test runs ≡ after_check (check_answer runs) none
+pub first_refused : (test : Run → Bool) (runs : List Run) → runs_accepted (check_answer runs) ≡ false → found_first test runs ≡ after_check (check_answer runs) None
 unfolding found_first
 first_refused test runs = refused (check_answer runs) (first_run test runs)
   where
-    refused : (answer : RunsAnswer) (run : Option Run) → runs_accepted answer ≡ false → after_check answer run ≡ after_check answer none
-    refused checked.Accepted run e = both_absurd true refl e
-    refused checked.TooMany run e = refl
-    refused (checked.OutOfOrder index) run e = refl
+    refused : (answer : RunsChecked) (run : Option Run) → runs_accepted answer ≡ false → after_check answer run ≡ after_check answer None
+    refused (Ok done) run e = both_absurd true refl e
+    refused (Err refusal) run e = refl
 
 -- the run at an index ends after a tick; it starts at a tick or after it
 abbrev pub ends_after : List Run → ℕ → ℕ → Bool
@@ -77,10 +73,10 @@ module _ (runs : List Run) (tick : ℕ) where
   starting_from l = leb-true tick (get_or runs (first_starting runs tick) no_run).start (passes (starts_from_at runs tick) (length runs) l)
 
   -- The answers to the two queries for one run, on an accepted list.
-  module _ (accepted : check_answer runs ≡ checked.Accepted) where
+  module _ (accepted : check_answer runs ≡ Accepted) where
     -- the run that holds the tick is the first that ends after it, where it has begun,
     pub at-found : first_ending runs tick < length runs → (get_or runs (first_ending runs tick) no_run).start ≤ tick
-        → run_at_tick runs tick ≡ found.One (get_or runs (first_ending runs tick) no_run)
+        → run_at_tick runs tick ≡ Ok (Some (get_or runs (first_ending runs tick) no_run))
     unfolding found_first
     at-found l h =
         let i = first_ending runs tick in
@@ -91,13 +87,13 @@ module _ (runs : List Run) (tick : ℕ) where
         )
 
     -- none holds it where every run has ended,
-    pub at_ended : length runs ≤ first_ending runs tick → run_at_tick runs tick ≡ found.None
+    pub at_ended : length runs ≤ first_ending runs tick → run_at_tick runs tick ≡ Ok None
     unfolding found_first
     at_ended h =
         rw (accepted, first_none (λ run. run_holds run tick) runs (λ k l. after_holds (get_or runs k no_run) tick (ended_before k (omega arith))))
 
     -- or where the first that ends after the tick has not begun
-    pub at-not-begun : tick < (get_or runs (first_ending runs tick) no_run).start → run_at_tick runs tick ≡ found.None
+    pub at-not-begun : tick < (get_or runs (first_ending runs tick) no_run).start → run_at_tick runs tick ≡ Ok None
     unfolding found_first
     at-not-begun h =
         rw (
@@ -112,7 +108,7 @@ module _ (runs : List Run) (tick : ℕ) where
         )
 
     -- the first run that starts at the tick or after it, where there is one
-    pub from_found : first_starting runs tick < length runs → run_from_tick runs tick ≡ found.One (get_or runs (first_starting runs tick) no_run)
+    pub from_found : first_starting runs tick < length runs → run_from_tick runs tick ≡ Ok (Some (get_or runs (first_starting runs tick) no_run))
     unfolding found_first
     from_found l =
         let i = first_starting runs tick in
@@ -123,7 +119,7 @@ module _ (runs : List Run) (tick : ℕ) where
         )
 
     -- and none where every run starts before the tick
-    pub from-started : length runs ≤ first_starting runs tick → run_from_tick runs tick ≡ found.None
+    pub from-started : length runs ≤ first_starting runs tick → run_from_tick runs tick ≡ Ok None
     unfolding found_first
     from-started h =
         rw (accepted, first_none (starts_from_tick tick) runs (λ k l. lt-leb tick (get_or runs k no_run).start (started_before k (omega arith))))

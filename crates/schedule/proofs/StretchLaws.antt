@@ -17,9 +17,8 @@ use Rattle.base.proofs.TestLaws.{cases, both_absurd}
 use Rattle.base.proofs.LowestLaws.{passes, lowest_bound, lowest_least}
 use Rattle.base.proofs.MemberLaws.{all_map}
 use Rattle.schedule.specs.declared.Run.{Run}
-use Rattle.schedule.specs.declared.RunsAnswer.TheVariants as checked
 use Rattle.schedule.specs.Runs.{no_run}
-use Rattle.schedule.specs.RunCheck.{check_answer, runs_accepted}
+use Rattle.schedule.specs.RunCheck.{Accepted, check_answer, runs_accepted}
 use Rattle.schedule.specs.BusyCount.{shared}
 use Rattle.schedule.specs.Queries.{touches, runs_that, touching, stretch_of, Unbroken}
 use Rattle.schedule.proofs.CheckLaws.{accepted_order, starts_rise, ends_rise, all_indices}
@@ -148,7 +147,7 @@ module _ (test : Run → Bool) (runs : List Run) (first count : ℕ) (s : Stretc
 -- The runs of an accepted list that share a tick with an interval.
 
 -- where the interval is not empty, they are those from the first that ends after its start up to the first that starts at its end or after it
-pub interval_stretched : (runs : List Run) (a b : ℕ) → check_answer runs ≡ checked.Accepted → a < b
+pub interval_stretched : (runs : List Run) (a b : ℕ) → check_answer runs ≡ Accepted → a < b
     → Stretched (touches a b) runs (first_ending runs a) (first_starting runs b - first_ending runs a)
 interval_stretched runs a b accepted h =
     let o = accepted_order runs accepted in
@@ -186,7 +185,7 @@ empty_stretched runs a b h =
     }
 
 -- the stretch of a query, from where the runs stand
-pub stretch_is : (runs : List Run) (a b first count : ℕ) → check_answer runs ≡ checked.Accepted → Stretched (touches a b) runs first count
+pub stretch_is : (runs : List Run) (a b first count : ℕ) → check_answer runs ≡ Accepted → Stretched (touches a b) runs first count
     → stretch_of runs a b ≡ pick (eqb count 0) (record { first = 0; runs = 0 }) (record { first = first; runs = count })
 unfolding stretch_of touching
 stretch_is runs a b first count accepted s =

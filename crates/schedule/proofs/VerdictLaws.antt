@@ -17,8 +17,7 @@ use Rattle.base.proofs.PlaceLaws.{places_at}
 use Rattle.base.specs.Members.{every_member}
 use Rattle.clock.specs.Clock.{bad_launch}
 use Rattle.table.specs.declared.Table.{Table}
-use Rattle.table.specs.declared.Answer.TheVariants.{Accepted}
-use Rattle.table.specs.Answers.{number_of, place_of, is_accepted}
+use Rattle.table.specs.Answers.{Accepted, number_of, place_of, is_accepted}
 use Rattle.table.specs.Reading.{ReadTable}
 use Rattle.schedule.specs.declared.Job.{Job}
 use Rattle.schedule.specs.declared.Judged.{Judged}

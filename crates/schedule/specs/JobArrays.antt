@@ -1,5 +1,5 @@
--- For the proofs of the code alone: jobs that stand at the first places of an array, and the limits that they keep.
-use Rattle.std.specs.Prelude.{ℕ, ◌≤◌, ◌<◌, List, ltb, get_or}
+-- For the proofs of the code alone: jobs that stand at the first places of an array, and the limits that jobs keep.
+use Rattle.std.specs.Prelude.{ℕ, ◌≤◌, ◌<◌, List, ltb, length, get_or}
 use Rattle.base.specs.Limits.{max_tasks, max_ticks, last_tick}
 use Rattle.base.specs.Tests.{pick}
 use Rattle.base.specs.Places.{places}
@@ -27,6 +27,6 @@ pub record Bounded (job : Job) : Type 0 where
   pub mandatory : job.mandatory ≤ max_ticks
   pub optional : job.optional ≤ max_ticks
 
--- each of the jobs at the first `count` places of an array is
-abbrev pub AllBounded : List Job → ℕ → Type 0
-AllBounded jobs count = (k : ℕ) → k < count → Bounded (get_or jobs k no_job)
+-- each of some jobs is
+abbrev pub AllBounded : List Job → Type 0
+AllBounded jobs = (k : ℕ) → k < length jobs → Bounded (get_or jobs k no_job)

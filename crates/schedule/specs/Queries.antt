@@ -1,37 +1,35 @@
 -- Queries of a run list, whoever made it: the run at a tick, the first run that starts at or after a tick, and the runs that share a tick with an interval.
 -- What the check refuses, they refuse.
-use Rattle.std.specs.Prelude.{ℕ, ◌≤◌, ◌<◌, List, [], ◌∷◌, ◌++◌, ◌≡◌, ◌↔◌, Bool, true, false, leb, ltb, eqb, length, get_or}
-use Rattle.std.proofs.Math.Option.{Option, none, some}
+use Rattle.std.specs.Prelude.{ℕ, ◌≤◌, ◌<◌, List, [], ◌∷◌, ◌++◌, ◌≡◌, ◌↔◌, Bool, true, false, leb, ltb, eqb, length, get_or, Option, Some, None, Result, Ok, Err, is_some, unwrap_or}
 use Rattle.base.specs.Tests.{pick}
 use Rattle.base.specs.Lowest.{lowest}
 use Rattle.base.specs.Members.{All, Any}
 use Rattle.schedule.specs.declared.Run.{Run}
-use Rattle.schedule.specs.declared.RunsAnswer.{RunsAnswer}
-use Rattle.schedule.specs.declared.RunsAnswer.TheVariants as checked
-use Rattle.schedule.specs.declared.Found.{Found}
-use Rattle.schedule.specs.declared.Found.TheVariants as found
+use Rattle.schedule.specs.declared.RunsRefusal.{RunsRefusal}
 use Rattle.schedule.specs.declared.Stretch.{Stretch}
 use Rattle.schedule.specs.Runs.{no_run, run_holds}
-use Rattle.schedule.specs.RunCheck.{check_answer, runs_accepted}
+use Rattle.schedule.specs.RunCheck.{RunsChecked, Accepted, check_answer, refusal_number, refusal_place, runs_accepted}
 use Rattle.schedule.specs.BusyCount.{shared}
 
 -- The two queries for one run.
 
 -- the first run of a list that passes a test, or none
 unfoldable pub first_run : (Run → Bool) → List Run → Option Run
-first_run test [] = none
-first_run test (run ∷ runs) = pick (test run) (some run) (first_run test runs)
+first_run test [] = None
+first_run test (run ∷ runs) = pick (test run) (Some run) (first_run test runs)
 
 -- the run starts at the tick or after it
 abbrev pub starts_from_tick : ℕ → Run → Bool
 starts_from_tick tick run = leb tick run.start
 
--- the answer of a query after the check of the list: what the check refuses, or the run that was found, or that there is none
-abbrev pub after_check : RunsAnswer → Option Run → Found
-after_check checked.Accepted none = found.None
-after_check checked.Accepted (some run) = found.One run
-after_check checked.TooMany run = found.TooMany
-after_check (checked.OutOfOrder index) run = found.OutOfOrder index
+-- what a query for one run answers: the run, or that there is none; or why the check refuses the list
+abbrev pub Found : Type 0
+Found = Result (Option Run) RunsRefusal
+
+-- the answer of a query after the check of the list: why the check refuses it, or the run that was found, or that there is none
+abbrev pub after_check : RunsChecked → Option Run → Found
+after_check (Ok done) run = Ok run
+after_check (Err refusal) run = Err refusal
 
 -- the answer of the query for the first run of a list that passes a test
 unfoldable pub found_first : (Run → Bool) → List Run → Found
@@ -47,42 +45,34 @@ run_from_tick runs tick = found_first (starts_from_tick tick) runs
 
 -- of each case of an answer the number, the place and the values: whether there is a run, and the run, which is 0 throughout where there is none
 abbrev pub found_number : Found → ℕ
-found_number (found.One run) = 0
-found_number found.None = 0
-found_number found.TooMany = 13
-found_number (found.OutOfOrder index) = 15
+found_number (Ok run) = 0
+found_number (Err refusal) = refusal_number refusal
 
 abbrev pub found_place : Found → ℕ
-found_place (found.One run) = 0
-found_place found.None = 0
-found_place found.TooMany = 0
-found_place (found.OutOfOrder index) = index
+found_place (Ok run) = 0
+found_place (Err refusal) = refusal_place refusal
 
 abbrev pub is_found : Found → Bool
-is_found (found.One run) = true
-is_found found.None = false
-is_found found.TooMany = false
-is_found (found.OutOfOrder index) = false
+is_found (Ok run) = is_some run
+is_found (Err refusal) = false
 
 abbrev pub run_found : Found → Run
-run_found (found.One run) = run
-run_found found.None = no_run
-run_found found.TooMany = no_run
-run_found (found.OutOfOrder index) = no_run
+run_found (Ok run) = unwrap_or run no_run
+run_found (Err refusal) = no_run
 
 -- What the two answers mean.
 
 -- a run is answered for a tick exactly where it is a member that holds the tick, none exactly where no member does, and runs at two indices never both
 -- hold the tick
 pub record HolderAnswered (runs : List Run) (tick : ℕ) (answer : Found) : Type 0 where
-  pub run_is : (run : Run) → (answer ≡ found.One run) ↔ (Any (λ other. other ≡ run) runs × (run_holds run tick ≡ true))
-  pub none_is : (answer ≡ found.None) ↔ All (λ run. run_holds run tick ≡ false) runs
+  pub run_is : (run : Run) → (answer ≡ Ok (Some run)) ↔ (Any (λ other. other ≡ run) runs × (run_holds run tick ≡ true))
+  pub none_is : (answer ≡ Ok None) ↔ All (λ run. run_holds run tick ≡ false) runs
   pub alone : (i k : ℕ) → i < length runs → k < length runs
       → run_holds (get_or runs i no_run) tick ≡ true → run_holds (get_or runs k no_run) tick ≡ true → i ≡ k
 
 -- so it is where the check accepts the list
 abbrev pub HoldsTick : List Run → ℕ → Found → Type 0
-HoldsTick runs tick answer = check_answer runs ≡ checked.Accepted → HolderAnswered runs tick answer
+HoldsTick runs tick answer = check_answer runs ≡ Accepted → HolderAnswered runs tick answer
 
 -- a run is the first from a tick on: it stands at an index of the list and starts at the tick or after it, and every run before it starts before the tick
 pub record IsFirstFrom (runs : List Run) (tick : ℕ) (run : Run) : Type 0 where
@@ -94,12 +84,12 @@ pub record IsFirstFrom (runs : List Run) (tick : ℕ) (run : Run) : Type 0 where
 
 -- a run is answered exactly where it is the first from the tick on, none exactly where every run starts before the tick
 pub record FirstAnswered (runs : List Run) (tick : ℕ) (answer : Found) : Type 0 where
-  pub run_is : (run : Run) → (answer ≡ found.One run) ↔ IsFirstFrom runs tick run
-  pub none_is : (answer ≡ found.None) ↔ All (λ run. run.start < tick) runs
+  pub run_is : (run : Run) → (answer ≡ Ok (Some run)) ↔ IsFirstFrom runs tick run
+  pub none_is : (answer ≡ Ok None) ↔ All (λ run. run.start < tick) runs
 
 -- so it is where the check accepts the list
 abbrev pub FirstFrom : List Run → ℕ → Found → Type 0
-FirstFrom runs tick answer = check_answer runs ≡ checked.Accepted → FirstAnswered runs tick answer
+FirstFrom runs tick answer = check_answer runs ≡ Accepted → FirstAnswered runs tick answer
 
 -- The query for an interval.
 
@@ -137,4 +127,4 @@ pub record Unbroken (P : Run → Type 0) (runs stretch : List Run) : Type 0 wher
 
 -- the runs answered for an interval are one unbroken stretch of a list that is accepted: each shares a tick with the interval, and none of the others does
 abbrev pub TouchingStretch : ℕ → ℕ → List Run → List Run → Type 0
-TouchingStretch a b runs stretch = check_answer runs ≡ checked.Accepted → Unbroken (SharesTick a b) runs stretch
+TouchingStretch a b runs stretch = check_answer runs ≡ Accepted → Unbroken (SharesTick a b) runs stretch

@@ -1,11 +1,11 @@
 -- The check of a run list, whoever made it: what the busy count and the queries refuse before they look at anything else. 13, then 15 with the index of
 -- the first run whose start is not below its end or lies before the previous end.
-use Rattle.std.specs.Prelude.{ℕ, zero, suc, List, Bool, true, false, not, ltb, length, get_or}
+use Rattle.std.specs.Prelude.{ℕ, zero, suc, List, Bool, not, ltb, length, get_or, Result, Ok, Err, is_ok}
 use Rattle.base.specs.Tests.{pick, or}
 use Rattle.base.specs.Lowest.{lowest}
 use Rattle.schedule.specs.declared.Run.{Run}
-use Rattle.schedule.specs.declared.RunsAnswer.{RunsAnswer}
-use Rattle.schedule.specs.declared.RunsAnswer.TheVariants as checked
+use Rattle.schedule.specs.declared.RunsRefusal.{RunsRefusal}
+use Rattle.schedule.specs.declared.RunsRefusal.TheVariants.{TooMany, OutOfOrder}
 use Rattle.schedule.specs.Runs.{no_run, too_many}
 
 -- the end of the run before index k; before the first run there is none, and no start lies before tick 0
@@ -22,25 +22,36 @@ out_of_order runs k =
 unfoldable pub first_out_of_order : List Run → ℕ
 first_out_of_order runs = lowest (out_of_order runs) (length runs)
 
--- what the check of a run list answers
-unfoldable pub check_answer : List Run → RunsAnswer
+-- what the check of a run list answers: that it is accepted, or why it is refused
+abbrev pub RunsChecked : Type 0
+RunsChecked = Result (Unit {0}) RunsRefusal
+
+-- the one answer that accepts
+abbrev pub Accepted : RunsChecked
+Accepted = Ok tt
+
+unfoldable pub check_answer : List Run → RunsChecked
 check_answer runs =
-    pick (too_many runs) checked.TooMany
-    (pick (ltb (first_out_of_order runs) (length runs)) (checked.OutOfOrder (first_out_of_order runs)) checked.Accepted)
+    pick (too_many runs) (Err TooMany)
+    (pick (ltb (first_out_of_order runs) (length runs)) (Err (OutOfOrder (first_out_of_order runs))) Accepted)
 
--- the number and the place of each of its cases
-abbrev pub runs_number : RunsAnswer → ℕ
-runs_number checked.Accepted = 0
-runs_number checked.TooMany = 13
-runs_number (checked.OutOfOrder index) = 15
+-- the number and the place of each refusal, and of each answer, where those of the one that accepts are 0
+abbrev pub refusal_number : RunsRefusal → ℕ
+refusal_number TooMany = 13
+refusal_number (OutOfOrder index) = 15
 
-abbrev pub runs_place : RunsAnswer → ℕ
-runs_place checked.Accepted = 0
-runs_place checked.TooMany = 0
-runs_place (checked.OutOfOrder index) = index
+abbrev pub refusal_place : RunsRefusal → ℕ
+refusal_place TooMany = 0
+refusal_place (OutOfOrder index) = index
+
+abbrev pub runs_number : RunsChecked → ℕ
+runs_number (Ok done) = 0
+runs_number (Err refusal) = refusal_number refusal
+
+abbrev pub runs_place : RunsChecked → ℕ
+runs_place (Ok done) = 0
+runs_place (Err refusal) = refusal_place refusal
 
 -- the check accepts the run list
-abbrev pub runs_accepted : RunsAnswer → Bool
-runs_accepted checked.Accepted = true
-runs_accepted checked.TooMany = false
-runs_accepted (checked.OutOfOrder index) = false
+abbrev pub runs_accepted : RunsChecked → Bool
+runs_accepted answer = is_ok answer

@@ -2,11 +2,11 @@
 // lists and of what these calls answer stand in specs/.
 #![tactic(auto)]
 
-ghost use Rattle.std.specs.Prelude.{◌≡◌, false, ℕ, ◌≤◌, ◌<◌, ltb};
+ghost use Rattle.std.specs.Prelude.{◌≡◌, false, ℕ, ◌≤◌, ◌<◌, ltb, length, take};
 ghost use Rattle.base.specs.Limits.{max_tasks, max_runs, last_frame, max_launch, bad_period};
 ghost use Rattle.table.specs.Tables.{task_at};
-ghost use Rattle.schedule.specs.RunCheck.{runs_number, runs_place};
-ghost use Rattle.schedule.specs.Queries.{found_number, found_place, is_found, run_found};
+ghost use Rattle.schedule.specs.LentRuns.{OneLength, runs_before};
+ghost use Rattle.schedule.specs.RunCheck.{refusal_number, refusal_place};
 ghost use Rattle.schedule.specs.Jobs.{job_of, window_ticks};
 ghost use Rattle.schedule.specs.JobArrays.{job_array};
 
@@ -14,7 +14,7 @@ use base::{MAX_RUNS, MAX_TASKS};
 use table::{Table, Task};
 
 // A task in ticks: its position, its window from the release tick, included, to the deadline tick, excluded, and its two lengths.
-#[derive(Clone, Copy)]
+#[derive(Clone, Copy, Debug, PartialEq, Eq)]
 pub struct Job {
     pub position: u32,
     pub release: u32,
@@ -35,7 +35,7 @@ pub const NO_JOB: Job = Job {
 // A run: its first tick, the tick after its last, and the task's position. The judge, the busy count and the queries are lent a list of them; a
 // planner writes them as three columns.
 #[repr(C)]
-#[derive(Clone, Copy)]
+#[derive(Clone, Copy, Debug, PartialEq, Eq)]
 pub struct Run {
     pub start: u32,
     pub end: u32,
@@ -51,7 +51,7 @@ pub const NO_RUN: Run = Run {
 
 // The reply of judging: the refusal's number and place; or 0, the verdict, and with a yes the counts kept and discarded.
 #[repr(C)]
-#[derive(Clone, Copy)]
+#[derive(Clone, Copy, Debug, PartialEq, Eq)]
 pub struct Judged {
     pub number: u32,
     pub place: usize,
@@ -62,111 +62,66 @@ pub struct Judged {
 
 // The reply of the busy count: the refusal's number and place, or 0 and the ticks of the interval that some run holds.
 #[repr(C)]
-#[derive(Clone, Copy)]
+#[derive(Clone, Copy, Debug, PartialEq, Eq)]
 pub struct Busy {
     pub number: u32,
     pub place: usize,
     pub ticks: u64,
 }
 
-// What the check of a run list answers, before anything is counted in it or asked of it: it is accepted, or it has too many runs, or the run at an index
-// is the first that is out of order.
-#[derive(Clone, Copy)]
-pub enum RunsAnswer {
-    Accepted,
+// Why the check refuses a run list, before anything is counted in it or asked of it: it has too many runs, or the run at an index is the first that is out of
+// order.
+#[derive(Clone, Copy, Debug, PartialEq, Eq)]
+pub enum RunsRefusal {
     TooMany,
     OutOfOrder(usize),
 }
 
-impl RunsAnswer {
-    // The number of the answer: 0, 13 or 15.
+impl RunsRefusal {
+    // The number of the refusal: 13 or 15.
     pub fn number(self) -> u32
-        ensures { result ≡ runs_number self }
+        ensures { result ≡ refusal_number self }
     {
         match self {
-            RunsAnswer::Accepted => 0,
-            RunsAnswer::TooMany => 13,
-            RunsAnswer::OutOfOrder(index) => 15,
+            RunsRefusal::TooMany => 13,
+            RunsRefusal::OutOfOrder(_) => 15,
         }
     }
 
-    // The place of the answer: of 15 the index.
+    // The place of the refusal: of 15 the index.
     pub fn place(self) -> usize
-        ensures { result ≡ runs_place self }
+        ensures { result ≡ refusal_place self }
     {
         match self {
-            RunsAnswer::Accepted => 0,
-            RunsAnswer::TooMany => 0,
-            RunsAnswer::OutOfOrder(index) => index,
-        }
-    }
-}
-
-// What a query for one run answers: the run, or that there is none; or what the check of the run list refuses.
-#[derive(Clone, Copy)]
-pub enum Found {
-    One(Run),
-    None,
-    TooMany,
-    OutOfOrder(usize),
-}
-
-impl Found {
-    // The number of the answer: 0, 13 or 15.
-    pub fn number(self) -> u32
-        ensures { result ≡ found_number self }
-    {
-        match self {
-            Found::One(run) => 0,
-            Found::None => 0,
-            Found::TooMany => 13,
-            Found::OutOfOrder(index) => 15,
-        }
-    }
-
-    // The place of the answer: of 15 the index.
-    pub fn place(self) -> usize
-        ensures { result ≡ found_place self }
-    {
-        match self {
-            Found::One(run) => 0,
-            Found::None => 0,
-            Found::TooMany => 0,
-            Found::OutOfOrder(index) => index,
-        }
-    }
-
-    // There is a run.
-    pub fn is_one(self) -> bool
-        ensures { result ≡ is_found self }
-    {
-        match self {
-            Found::One(run) => true,
-            Found::None => false,
-            Found::TooMany => false,
-            Found::OutOfOrder(index) => false,
-        }
-    }
-
-    // The run, which is 0 throughout where there is none.
-    pub fn run(self) -> Run
-        ensures { result ≡ run_found self }
-    {
-        match self {
-            Found::One(run) => run,
-            Found::None => NO_RUN,
-            Found::TooMany => NO_RUN,
-            Found::OutOfOrder(index) => NO_RUN,
+            RunsRefusal::TooMany => 0,
+            RunsRefusal::OutOfOrder(index) => index,
         }
     }
 }
 
 // A stretch of a run list: its first index and how many runs. Of an empty one both are 0.
 #[repr(C)]
-#[derive(Clone, Copy)]
+#[derive(Clone, Copy, Debug, PartialEq, Eq)]
 pub struct Stretch {
     pub first: usize,
     pub runs: usize,
+}
+
+// The runs that stand in three columns, as a planner writes them, at the first places of an array: its first runs may be lent to those who take a run list.
+pub fn runs_of<const N: usize>(starts: &[u32], ends: &[u32], tasks: &[u32]) -> [Run; N]
+    requires one_length { OneLength starts ends tasks }
+    requires room { length starts.now ≤ N }
+    ensures { take (length starts.now) result ≡ runs_before starts ends tasks }
+{
+    let mut runs = [NO_RUN; N];
+    for (i, start) in starts.iter().enumerate() {
+        runs[i] = Run {
+            start: *start,
+            end: ends[i],
+            task: tasks[i],
+        };
+    }
+    runs
 }
 
 // So many runs are more than the limit.
@@ -211,12 +166,8 @@ pub fn jobs_of(table: Table, launch: u32) -> [Job; MAX_TASKS]
     ensures { result ≡ job_array launch table }
 {
     let mut jobs = [NO_JOB; MAX_TASKS];
-    let count = table.count as usize;
-    let mut i: usize = 0;
-    while i < count {
-        let task = table.tasks[i];
-        jobs[i] = job_of(task, launch, table.p, table.q, i as u32);
-        i += 1;
+    for k in 0..table.count as usize {
+        jobs[k] = job_of(table.tasks[k], launch, table.p, table.q, k as u32);
     }
     jobs
 }

@@ -6,48 +6,54 @@
 // title, and the number and place of the answer; then of judging the verdict and the counts kept and discarded, of counting the ticks, and of asking the run
 // at the tick, the first run that starts at it or after it, and the stretch that touches the interval.
 //
-// The last cases are about the comparison that this program makes itself. Such a line has runs that stand in an array, runs that stand in columns, and the first
-// index of a stretch of the array and how many runs it has. What is printed is that index and how many runs the columns have, and `other` where these are not
-// the runs of the stretch.
+// The last cases are about the comparison that this program makes itself. Such a line has runs that stand in an array, other runs, and the first index of a stretch
+// of the array and how many runs it has. What is printed is that index and how many the other runs are, and `other` where they are not those of the stretch.
 //
-// The runs of a case stand in an array, and its first runs are lent to the entry points as a list of records.
+// The runs of a case stand in an array, and its first runs are lent to the entry points.
 #![tactic(auto)]
 
-ghost use Rattle.std.specs.Prelude.{◌≤◌};
-ghost use Rattle.records.specs.RecordColumns.{LegalColumns};
+ghost use Rattle.std.specs.Prelude.{◌≤◌, length};
 
-use cases::STDIN;
-use records::{MAX_COPIED, RunColumns};
-use schedule::{Busy, Found, Judged, Run, Stretch};
+use base::MAX_RUNS;
+use schedule::{Busy, Judged, NO_RUN, Run, RunsRefusal, Stretch};
 
-// The runs of a case, from the field of their starts on.
-fn runs_at(line: &[u8], field: usize) -> RunColumns
+// The places of an array of runs: one more than a run list may have, so that a list of too many is lent too.
+const PLACES: usize = MAX_RUNS + 1;
+
+// The runs of a case, from the field of their starts on, at the first places of an array, and how many there are.
+fn runs_at(line: &[u8], field: usize) -> ([Run; PLACES], usize)
     requires { field ≤ 4 }
-    ensures { LegalColumns result }
+    ensures { result.1 ≤ length result.0 }
 {
-    let mut starts = [0u32; MAX_COPIED];
-    let mut ends = [0u32; MAX_COPIED];
-    let mut tasks = [0u32; MAX_COPIED];
+    let mut starts = [0u32; PLACES];
+    let mut ends = [0u32; PLACES];
+    let mut tasks = [0u32; PLACES];
     let count = cases::numbers(line, field, &mut starts);
     cases::numbers(line, field + 1, &mut ends);
     cases::numbers(line, field + 2, &mut tasks);
-    RunColumns {
-        count,
-        starts,
-        ends,
-        tasks,
+    let mut runs = [NO_RUN; PLACES];
+    for (i, run) in runs.iter_mut().enumerate() {
+        *run = Run {
+            start: starts[i],
+            end: ends[i],
+            task: tasks[i],
+        };
     }
+    (runs, count)
 }
 
 // Prints the answer of judging.
 fn show_verdict(reply: Judged) {
-    cases::show(b" # #", &[reply.number as u64, reply.place as u64]);
+    cases::show(b" # #", &[u64::from(reply.number), reply.place as u64]);
     if reply.yes {
         cases::text(b" yes");
     } else {
         cases::text(b" no");
     }
-    cases::show(b" # #\n", &[reply.kept as u64, reply.discarded as u64]);
+    cases::show(
+        b" # #\n",
+        &[u64::from(reply.kept), u64::from(reply.discarded)],
+    );
 }
 
 // A case of judging.
@@ -57,93 +63,62 @@ fn judge(line: &[u8]) {
     let length = cases::file(line, 1, &mut file);
     let launch = cases::number(line, 2);
     let kept = cases::bytes(line, 3, &mut marks);
-    let columns = runs_at(line, 4);
-    let rows = record_calls::rows_of(columns);
-    show_verdict(record_calls::judge_rows(
-        &file[..length],
-        launch,
-        &marks[..kept],
-        rows,
-        columns.count,
-    ));
+    let (runs, count) = runs_at(line, 4);
+    show_verdict(judging::judge(&file[..length], launch, &marks[..kept], &runs[..count]));
 }
 
 // Prints the answer of counting.
 fn show_busy(reply: Busy) {
     cases::show(
         b" # # #\n",
-        &[reply.number as u64, reply.place as u64, reply.ticks],
+        &[u64::from(reply.number), reply.place as u64, reply.ticks],
     );
 }
 
 // A case of counting.
 fn count(line: &[u8]) {
-    let columns = runs_at(line, 1);
-    let rows = record_calls::rows_of(columns);
+    let (runs, count) = runs_at(line, 1);
     let a = cases::number(line, 4);
     let b = cases::number(line, 5);
-    let answers = record_calls::ask_rows(rows, columns.count, a, a, b);
-    let busy = answers.busy;
-    show_busy(busy);
+    show_busy(busy::busy(&runs[..count], a, b));
 }
 
-// Prints the answer of a query for one run: number, place, 1 or 0 for a run or none, and the run.
-fn show_found(found: Found) {
-    let run = found.run();
+// The number and the place of an answer, which are 0 where nothing is refused.
+fn number_and_place(refusal: Option<RunsRefusal>) -> [u64; 2] {
+    match refusal {
+        Some(refusal) => [u64::from(refusal.number()), refusal.place() as u64],
+        None => [0, 0],
+    }
+}
+
+// Prints the answer of a query for one run: number, place, 1 or 0 for a run or none, and the run, which is 0 throughout where there is none.
+fn show_found(found: Result<Option<Run>, RunsRefusal>) {
+    let [number, place] = number_and_place(found.err());
+    let run = found.ok().flatten();
+    cases::show(b" # # #", &[number, place, u64::from(run.is_some())]);
+    let run = run.unwrap_or(NO_RUN);
     cases::show(
         b" # # #",
         &[
-            found.number() as u64,
-            found.place() as u64,
-            found.is_one() as u64,
+            u64::from(run.start),
+            u64::from(run.end),
+            u64::from(run.task),
         ],
     );
-    cases::show(
-        b" # # #",
-        &[run.start as u64, run.end as u64, run.task as u64],
-    );
 }
 
-// A run has these numbers.
-fn is_run(run: Run, start: u32, end: u32, task: u32) -> bool {
-    if run.start != start {
-        return false;
-    }
-    if run.end != end {
-        return false;
-    }
-    run.task == task
-}
-
-// The runs that columns hold are those of a stretch of an array.
-fn are_runs(rows: [Run; MAX_COPIED], stretch: Stretch, part: RunColumns) -> bool {
-    let first = stretch.first;
-    let count = stretch.runs;
-    if part.count != count {
-        return false;
-    }
-    if MAX_COPIED < first {
-        return false;
-    }
-    if MAX_COPIED - first < count {
-        return false;
-    }
-    let mut i: usize = 0;
-    while i < count {
-        let run = rows[first + i];
-        if !is_run(run, part.starts[i], part.ends[i], part.tasks[i]) {
-            return false;
-        }
-        i += 1;
-    }
-    true
+// Runs are those of a stretch of others.
+fn are_runs(runs: &[Run], stretch: Stretch, part: &[Run]) -> bool {
+    runs.get(stretch.first..)
+        .and_then(|rest| rest.get(..stretch.runs))
+        .is_some_and(|there| there == part)
 }
 
 // Prints the runs that share a tick with the interval: the first index of their stretch and how many they are, and where they are not the runs of the
 // stretch, that they are others.
-fn show_stretch(rows: [Run; MAX_COPIED], stretch: Stretch, part: RunColumns) {
-    cases::show(b" # #", &[stretch.first as u64, part.count as u64]);
-    if !are_runs(rows, stretch, part) {
+fn show_stretch(runs: &[Run], stretch: Stretch, part: &[Run]) {
+    cases::show(b" # #", &[stretch.first as u64, part.len() as u64]);
+    if !are_runs(runs, stretch, part) {
         cases::text(b" other");
     }
     cases::text(b"\n");
@@ -151,31 +126,32 @@ fn show_stretch(rows: [Run; MAX_COPIED], stretch: Stretch, part: RunColumns) {
 
 // A case of asking.
 fn ask(line: &[u8]) {
-    let columns = runs_at(line, 1);
-    let rows = record_calls::rows_of(columns);
+    let (array, count) = runs_at(line, 1);
+    let runs = &array[..count];
     let tick = cases::number(line, 4);
     let a = cases::number(line, 5);
     let b = cases::number(line, 6);
-    let answers = record_calls::ask_rows(rows, columns.count, tick, a, b);
-    let check = answers.check;
-    cases::show(b" # # at", &[check.number() as u64, check.place() as u64]);
-    let at = answers.at;
-    show_found(at);
+    cases::show(b" # # at", &number_and_place(queries::check(runs).err()));
+    show_found(queries::run_at(runs, tick));
     cases::text(b" from");
-    let from = answers.from;
-    show_found(from);
+    show_found(queries::run_from(runs, tick));
     cases::text(b" touching");
-    let part = answers.touching;
-    show_stretch(rows, queries::stretch_copied(columns, a, b), part);
+    show_stretch(
+        &array,
+        queries::stretch(runs, a, b),
+        queries::touching(runs, a, b),
+    );
 }
 
 // A case of the comparison that this program makes itself.
 fn compare(line: &[u8]) {
-    let rows = record_calls::rows_of(runs_at(line, 1));
-    let part = runs_at(line, 4);
-    let first = cases::number(line, 7) as usize;
-    let runs = cases::number(line, 8) as usize;
-    show_stretch(rows, Stretch { first, runs }, part);
+    let (runs, _) = runs_at(line, 1);
+    let (part, count) = runs_at(line, 4);
+    let stretch = Stretch {
+        first: cases::number(line, 7) as usize,
+        runs: cases::number(line, 8) as usize,
+    };
+    show_stretch(&runs, stretch, &part[..count]);
 }
 
 // The case on a line that starts with a given byte.
@@ -195,18 +171,6 @@ fn case(start: u8, line: &[u8]) {
     }
 }
 
-// The cases of a text, line by line.
-fn all(text: &[u8]) {
-    let mut start: usize = 0;
-    while start < text.len() {
-        let next = cases::next_line(text, start);
-        case(text[start], &text[start..next]);
-        start = next;
-    }
-}
-
 fn main() {
-    let mut text = io::large_buffer();
-    let length = io::read_full(STDIN, &mut text);
-    all(&text[..length]);
+    cases::for_each_line(case);
 }

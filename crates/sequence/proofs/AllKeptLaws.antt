@@ -6,9 +6,8 @@ use mathlib.Core.Bool.{Bool, true, false}
 use native.Mathlib.Omega.{arith}
 use lib.ListN.{length, get_or, replicate, length-map, get_or-replicate}
 use Rattle.base.specs.Limits.{max_tasks}
-use Rattle.base.specs.Places.{places}
 use Rattle.base.specs.Arrays.{first_places}
-use Rattle.base.proofs.PlaceLaws.{places_length, places_is}
+use Rattle.base.proofs.PlaceLaws.{places_is}
 use Rattle.schedule.specs.declared.Job.{Job}
 use Rattle.choice.specs.Choice.{discard_marks, discarded_worth, count_one}
 use Rattle.choice.specs.KeepLists.{ChosenFor}
@@ -50,18 +49,17 @@ same_at (job ∷ jobs) zero l = refl
 same_at (job ∷ jobs) (suc k) l = same_at jobs k (omega arith)
 
 -- an array of marks that keep is it
-same_places : (at : ℕ → Job) (count : ℕ) → count ≤ max_tasks → first_places false (replicate max_tasks true) count ≡ same_marks true (places at count)
-same_places at count small =
-    sym (places_is (λ k. get_or (replicate max_tasks true) k false) count false (same_marks true (places at count))
-    (length-map (places at count) (λ job. true) ∙ places_length at count)
-    (λ k l. same_at (places at count) k (omega (arith, places_length at count)) ∙ sym (get_or-replicate max_tasks k true false (omega arith))))
+same_places : (jobs : List Job) → length jobs ≤ max_tasks → first_places false (replicate max_tasks true) (length jobs) ≡ same_marks true jobs
+same_places jobs small =
+    sym (places_is (λ k. get_or (replicate max_tasks true) k false) (length jobs) false (same_marks true jobs)
+    (length-map jobs (λ job. true))
+    (λ k l. same_at jobs k l ∙ sym (get_or-replicate max_tasks k true false (omega arith))))
 
 -- What the choice comes to then: all parts are kept.
-pub all_gives : (at : ℕ → Job) (count parts : ℕ) → count ≤ max_tasks → parts ≡ all_worth count_one (places at count)
-    → fits_in_order (places at count) (same_marks true (places at count)) ≡ true
-    → ChosenFor chosen_in_order (places at count) (first_places false (replicate max_tasks true) count) parts 0
-all_gives at count parts small e fit =
-    let jobs = places at count in
+pub all_gives : (jobs : List Job) (parts : ℕ) → length jobs ≤ max_tasks → parts ≡ all_worth count_one jobs
+    → fits_in_order jobs (same_marks true jobs) ≡ true
+    → ChosenFor chosen_in_order jobs (first_places false (replicate max_tasks true) (length jobs)) parts 0
+all_gives jobs parts small e fit =
     let none = all_worth_lem count_one jobs in
     let split = worth_split count_one jobs (same_marks true jobs) (order_length jobs (same_marks true jobs) fit) in
-    rw (← all_chosen jobs fit) (same_places at count small, omega arith, omega arith)
+    rw (← all_chosen jobs fit) (same_places jobs small, omega arith, omega arith)

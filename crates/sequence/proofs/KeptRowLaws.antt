@@ -19,7 +19,7 @@ use Rattle.base.proofs.TestLaws.{cases, pick_cases}
 use Rattle.base.proofs.MemberLaws.{all_from}
 use Rattle.schedule.specs.declared.Job.{Job}
 use Rattle.schedule.specs.Jobs.{work_with}
-use Rattle.schedule.specs.JobArrays.{Bounded}
+use Rattle.schedule.specs.JobArrays.{no_job, Bounded, AllBounded}
 use Rattle.base.specs.Members.{All}
 use Rattle.choice.specs.Choice.{keep_none, count_one, kept, discarded}
 use Rattle.choice.specs.Programme.{mandatory_sum, all_worth, greatest}
@@ -28,6 +28,7 @@ use Rattle.choice.proofs.FitLaws.{worth_split}
 use Rattle.choice.proofs.ProgrammeLaws.{greatest_most, greatest_only}
 use Rattle.choice.proofs.BuildLaws.{count_one-most}
 use Rattle.choice.proofs.BackLaws.{left_head}
+use Rattle.choice.proofs.JobLists.{left_whole}
 use Rattle.sequence.specs.InOrder.{fits_in_order}
 use Rattle.sequence.specs.OrderChoice.{chosen_in_order}
 use Rattle.sequence.specs.OrderRows.{bound_before, keeping_end, earliest, read_back, most_worth, chosen_by_rows}
@@ -222,12 +223,11 @@ pub record Gives (jobs : List Job) (most : ℕ) : Type 0 where
   pub others : discarded jobs (chosen_in_order jobs) + most ≡ all_worth count_one jobs
 
 -- The most parts of a list that fits do.
-pub most_gives : (at : ℕ → Job) (count : ℕ) → ((k : ℕ) → k < count → Bounded (at k)) → (most : ℕ) → most ≡ most_worth count_one huge_ticks (places at count)
-    → fits_in_order (places at count) (keep_none (places at count)) ≡ true → Gives (places at count) most
+pub most_gives : (jobs : List Job) → AllBounded jobs → (most : ℕ) → most ≡ most_worth count_one huge_ticks jobs
+    → fits_in_order jobs (keep_none jobs) ≡ true → Gives jobs most
 unfolding chosen_by_rows
-most_gives at count h most e none =
-    let jobs = places at count in
-    let d = rw (left_start at count) at (from_small at count h 0 (omega arith)) in
+most_gives jobs h most e none =
+    let d = rw (left_whole no_job jobs) at (from_small (λ k. get_or jobs k no_job) (length jobs) h 0 (omega arith)) in
     let z : 0 < huge_ticks = omega arith in
     let list = order_keeps count_one huge_ticks jobs d z none in
     let split = worth_split count_one jobs (chosen_in_order jobs) (order_length jobs (chosen_in_order jobs) list.fit) in

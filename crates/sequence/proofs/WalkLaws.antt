@@ -5,11 +5,11 @@ use mathlib.Core.List.{List, [], ◌∷◌, ◌++◌, map, reverse, reverse-cons
 use mathlib.Core.Bool.{Bool, true, false}
 use native.Mathlib.Omega.{arith}
 use native.Mathlib.Numerals.{add-one}
-use lib.ListN.{length, set, length-set, length-map, length-reverse}
+use lib.ListN.{length, get_or, set, length-set, length-map, length-reverse}
 use Rattle.base.specs.Limits.{last_tick}
 use Rattle.base.specs.Places.{places_from, places}
 use Rattle.base.specs.Lent.{written_front}
-use Rattle.base.specs.Arrays.{Distinct}
+use Rattle.base.specs.Arrays.{first_places, Distinct}
 use Rattle.base.proofs.PlaceLaws.{left_start, left_step, left_end}
 use Rattle.base.proofs.TestLaws.{cases, both_absurd}
 use Rattle.base.proofs.ListLaws.{map_append}
@@ -17,16 +17,17 @@ use Rattle.base.proofs.MemberLaws.{all_places}
 use Rattle.schedule.specs.declared.Job.{Job}
 use Rattle.schedule.specs.declared.Run.{Run}
 use Rattle.schedule.specs.Jobs.{work_with}
-use Rattle.schedule.specs.JobArrays.{Bounded}
+use Rattle.schedule.specs.JobArrays.{no_job, Bounded}
 use Rattle.schedule.specs.Runs.{starts_of, ends_of, tasks_of}
 use Rattle.choice.specs.Decisions.{huge_ticks, jobs_from}
+use Rattle.choice.proofs.JobLists as lists
 use Rattle.placement.specs.Chains.{positions}
 use Rattle.placement.specs.HeldRuns.{FrontsWritten}
 use Rattle.sequence.specs.InOrder.{starts_at, ends_at, in_time, finish, fits_in_order, runs_in_order, first_late}
 use Rattle.sequence.specs.RunList.{run_from, latest_runs, listed_runs}
 use Rattle.sequence.specs.OrderRows.{ending}
 use Rattle.sequence.specs.KeptRows.{same_marks}
-use Rattle.sequence.proofs.InOrderLaws.{work_cases, ends_none, ends_some, time_known, late_known, order_head, order_tail, order_cons}
+use Rattle.sequence.proofs.InOrderLaws.{work_cases, ends_none, ends_some, time_known, late_known, order_head, order_tail, order_cons, order_length}
 use Rattle.sequence.proofs.RunListLaws.{run_none, run_some, runs_listed_are}
 use Rattle.sequence.proofs.LateLaws.{none_late, late_only}
 
@@ -312,3 +313,21 @@ laid_end at keep count i time runs starts₀ ends₀ tasks₀ starts ends tasks 
       rw (e, js, ks) at f.runs_are ∙ sym (length-reverse (latest_runs (places at count) (places keep count))),
       (rw (e, js, ks) at f.starts_are, rw (e, js, ks) at f.ends_are, rw (e, js, ks) at f.tasks_are),
     )
+
+-- a list of marks that fits does so at its places
+pub fits_at_places : (jobs : List Job) (keeps : List Bool) → fits_in_order jobs keeps ≡ true
+    → fits_in_order (first_places no_job jobs (length jobs)) (first_places false keeps (length jobs)) ≡ true
+fits_at_places jobs keeps e =
+    rw (lists.places_whole no_job jobs, lists.places_all false keeps (length jobs) (order_length jobs keeps e)) e
+
+-- The same of lists of jobs and of marks.
+pub laid_lists : (jobs : List Job) (keeps : List Bool) (i time runs : ℕ) (starts₀ ends₀ tasks₀ starts ends tasks : List ℕ)
+    → Laid (λ k. get_or jobs k no_job) (λ k. get_or keeps k false) (length jobs) i time runs starts₀ ends₀ tasks₀ starts ends tasks → i ≤ 0
+    → Distinct (positions jobs) → length keeps ≡ length jobs
+    → (runs ≡ length (runs_in_order jobs keeps)) × FrontsWritten (runs_in_order jobs keeps) starts₀ ends₀ tasks₀ starts ends tasks
+laid_lists jobs keeps i time runs starts₀ ends₀ tasks₀ starts ends tasks f l d size =
+    let all = lists.places_whole no_job jobs in
+    let marks = lists.places_all false keeps (length jobs) size in
+    let apart : Distinct (positions (first_places no_job jobs (length jobs))) = rw all d in
+    rw (all, marks)
+    at (laid_end (λ k. get_or jobs k no_job) (λ k. get_or keeps k false) (length jobs) i time runs starts₀ ends₀ tasks₀ starts ends tasks f l apart)

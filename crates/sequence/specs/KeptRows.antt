@@ -6,7 +6,7 @@ use Rattle.base.specs.Tests.{pick, and}
 use Rattle.base.specs.Arrays.{Rewritten}
 use Rattle.schedule.specs.declared.Job.{Job}
 use Rattle.schedule.specs.Jobs.{counts, work_with}
-use Rattle.schedule.specs.JobArrays.{no_job, jobs_in}
+use Rattle.schedule.specs.JobArrays.{no_job}
 use Rattle.choice.specs.Choice.{count_one}
 use Rattle.choice.specs.Programme.{mandatory_sum, all_worth}
 use Rattle.choice.specs.Decisions.{row_places, huge_ticks, jobs_from}
@@ -88,14 +88,14 @@ pub record RowsKept (at : ℕ → Job) (count i : ℕ) (rows : List ℕ) : Type 
 abbrev pub RowPut : ((ℕ → ℕ) → ℕ → ℕ) → ℕ → ℕ → List ℕ → List ℕ → Type 0
 RowPut next most at before after = Rewritten 0 (next (numbers_from before (at + row_places))) at 0 (most + 1) before after
 
--- the rows of the first `count` of some jobs, the most parts that a list that fits keeps, and all mandatory ticks
-pub record RowsInPlace (jobs : List Job) (count : ℕ) (rows : List ℕ) (most mandatory : ℕ) : Type 0 where
-  pub room : RoomFor count (length rows)
-  pub rows_kept : RowsKept (λ k. get_or jobs k no_job) count 0 rows
-  pub most_is : most ≡ most_worth count_one huge_ticks (jobs_in jobs count)
-  pub most_within : most ≤ count
-  pub mandatory_is : mandatory ≡ mandatory_sum (jobs_in jobs count)
+-- the rows of some jobs, the most parts that a list that fits keeps, and all mandatory ticks
+pub record RowsInPlace (jobs : List Job) (rows : List ℕ) (most mandatory : ℕ) : Type 0 where
+  pub room : RoomFor (length jobs) (length rows)
+  pub rows_kept : RowsKept (λ k. get_or jobs k no_job) (length jobs) 0 rows
+  pub most_is : most ≡ most_worth count_one huge_ticks jobs
+  pub most_within : most ≤ length jobs
+  pub mandatory_is : mandatory ≡ mandatory_sum jobs
 
--- the number of the optional parts above 0 ticks of the first `count` of some jobs
-abbrev pub PartsOf : List Job → ℕ → ℕ → Type 0
-PartsOf jobs count parts = (parts ≡ all_worth count_one (jobs_in jobs count)) × (parts ≤ count)
+-- the number of the optional parts above 0 ticks of some jobs
+abbrev pub PartsOf : List Job → ℕ → Type 0
+PartsOf jobs parts = (parts ≡ all_worth count_one jobs) × (parts ≤ length jobs)

@@ -12,7 +12,7 @@ ghost use Rattle.base.specs.Arrays.{Distinct};
 ghost use Rattle.base.specs.Tests.{pick};
 ghost use Rattle.choice.specs.KeepLists.{keeps_in, ChosenFor};
 ghost use Rattle.choice.specs.Choice.{keep_none};
-ghost use Rattle.schedule.specs.JobArrays.{no_job, Bounded, jobs_in, AllBounded};
+ghost use Rattle.schedule.specs.JobArrays.{no_job, Bounded, AllBounded};
 ghost use Rattle.choice.specs.Programme.{mandatory_sum, greatest};
 ghost use Rattle.choice.specs.Decisions.{row_places, huge_ticks};
 ghost use Rattle.placement.specs.Chains.{positions};
@@ -49,26 +49,6 @@ struct Counts {
     pub mandatory: u32,
 }
 
-// The lesser of two numbers.
-fn lesser(a: u32, b: u32) -> u32
-    ensures { result ≡ min a b }
-{
-    if a < b {
-        return a;
-    }
-    b
-}
-
-// A time, and `from` where that is later.
-fn raised(time: u32, from: u32) -> u32
-    ensures { result ≡ max time from }
-{
-    if time < from {
-        return from;
-    }
-    time
-}
-
 // Where the work of a job ends that is run as early as it can from `time` on, and HUGE where that is after the deadline. Where there is no work,
 // `time` stays, and nothing is tested.
 fn ending_at(job: Job, work: u32, time: u32) -> u32
@@ -80,21 +60,8 @@ fn ending_at(job: Job, work: u32, time: u32) -> u32
     if work == 0 {
         return time;
     }
-    let end = raised(time, job.release) + work;
-    if end <= job.deadline {
-        return end;
-    }
-    HUGE
-}
-
-// A difference, and 0 where it would be below.
-fn minus(a: u32, b: u32) -> u32
-    ensures { result ≡ a - b }
-{
-    if a < b {
-        return 0;
-    }
-    a - b
+    let end = time.max(job.release) + work;
+    if end <= job.deadline { end } else { HUGE }
 }
 
 // The end of `ticks` run from `time` on within the limits of a job, and HUGE where there is no room for them.
@@ -102,11 +69,8 @@ fn limited(time: u32, limits: TimeLimits, ticks: u32) -> u32
     requires { (time ≤ huge_ticks) × (limits.from ≤ huge_ticks) × (ticks ≤ max_ticks) }
     ensures { result ≡ limited_end limits.from limits.room ticks time }
 {
-    let end = raised(time, limits.from) + ticks;
-    if end <= limits.room {
-        return end;
-    }
-    HUGE
+    let end = time.max(limits.from) + ticks;
+    if end <= limits.room { end } else { HUGE }
 }
 
 // The limits of a job whose optional part is discarded: where it has no work, nothing is tested.
@@ -123,7 +87,7 @@ fn free_limits(job: Job, kept: TimeLimits) -> TimeLimits
 }
 
 // The row of a job whose optional part has no ticks, up to `most` parts, into the places from `at` on; the row of the jobs before stands one row
-// further.
+// further. Both rows stand in one list: as two slices they would be cut from it at each job.
 fn row_without(rows: &mut [u32], at: usize, free: TimeLimits, most: usize)
     requires most_lt_row_places { most < row_places }
     requires most_in_bounds { at + row_places + most < length rows.old }
@@ -133,11 +97,9 @@ fn row_without(rows: &mut [u32], at: usize, free: TimeLimits, most: usize)
     ensures { RowPut (row_without free.from free.room) most at rows.old rows.new }
 {
     let from = at + ROW_PLACES;
-    let mut v: usize = 0;
-    while v <= most {
+    for v in 0..=most {
         let before = rows[from + v];
         rows[at + v] = limited(before, free, 0);
-        v += 1;
     }
 }
 
@@ -158,15 +120,13 @@ fn row_with(
     ensures { RowPut (row_with optional kept.from kept.room free.from free.room) most at rows.old rows.new }
 {
     let from = at + ROW_PLACES;
-    let mut v: usize = 0;
-    while v < most {
+    for v in 0..most {
         let next = v + 1;
         let before = rows[from + v];
         let same = rows[from + next];
         let with = limited(before, kept, optional);
         let without = limited(same, free, 0);
-        rows[at + next] = lesser(with, without);
-        v = next;
+        rows[at + next] = with.min(without);
     }
     let none = rows[from];
     rows[at] = limited(none, free, 0);
@@ -189,30 +149,28 @@ fn next_row(rows: &mut [u32], at: usize, job: Job, kept: TimeLimits, most: usize
     } else {
         row_with(rows, at, job.optional, kept, free, most);
     }
-    choosing::most_within(rows, at, most, HUGE - 1)
+    choosing::most_within(&rows[at..=at + most], HUGE - 1)
 }
 
-// The rows of the jobs that stand last first at the first `count` places, into a lent list that is huge throughout. The mandatory ticks are added
-// up once a job, and no number is made beyond the most parts of the jobs before and the job's own: a row is huge there.
-fn rows_of(jobs: [Job; MAX_TASKS], count: usize, rows: &mut [u32]) -> Counts
-    requires count_le_max_tasks { count ≤ max_tasks }
-    requires all_bounded { AllBounded jobs count }
-    requires room_for { RoomFor count (length rows.old) }
+// The rows of jobs that stand last first, into a lent list that is huge throughout. The mandatory ticks are added up once a job, and no number is made beyond
+// the most parts of the jobs before and the job's own: a row is huge there.
+fn rows_of(jobs: &[Job], rows: &mut [u32]) -> Counts
+    requires count_le_max_tasks { length jobs.now ≤ max_tasks }
+    requires all_bounded { AllBounded jobs.now }
+    requires room_for { RoomFor (length jobs.now) (length rows.old) }
     requires blank { Blank rows.old }
-    requires count_value { fits_in_order (jobs_in jobs count) (keep_none (jobs_in jobs count)) ≡ true }
-    ensures { RowsInPlace jobs count rows.new result.most result.mandatory }
+    requires count_value { fits_in_order jobs.now (keep_none jobs.now) ≡ true }
+    ensures { RowsInPlace jobs.now rows.new result.most result.mandatory }
 {
-    rows[ROW_PLACES * count] = 0;
+    rows[ROW_PLACES * jobs.len()] = 0;
     let mut most: usize = 0;
     let mut mandatory: u32 = 0;
-    let mut i = count;
-    while 0 < i {
-        i -= 1;
+    for i in (0..jobs.len()).rev() {
         let job = jobs[i];
         let before = mandatory;
         mandatory += job.mandatory;
-        let from = minus(job.release, before);
-        let room = minus(job.deadline, mandatory);
+        let from = job.release.saturating_sub(before);
+        let room = job.deadline.saturating_sub(mandatory);
         let part = choosing::worth(job);
         most = next_row(
             rows,
@@ -241,17 +199,14 @@ fn is_kept(rows: &[u32], from: usize, job: Job, limits: TimeLimits, v: usize) ->
         return false;
     }
     let before = rows[from + (v - 1)];
-    raised(before, limits.from) + job.optional <= limits.room
+    before.max(limits.from) + job.optional <= limits.room
 }
 
 // The optional ticks of a job, where its part is kept.
 fn kept_ticks(job: Job, keep: bool) -> u32
     ensures { result ≡ pick keep job.optional 0 }
 {
-    if keep {
-        return job.optional;
-    }
-    0
+    if keep { job.optional } else { 0 }
 }
 
 // The bound for the jobs before a job, from its room and the bound: where it has work, the room less its kept ticks.
@@ -262,81 +217,63 @@ fn bound_before(job: Job, keep: bool, room: u32, bound: u32) -> u32
 {
     let ticks = kept_ticks(job, keep);
     if 0 < job.mandatory + ticks {
-        return room - ticks;
+        room - ticks
+    } else {
+        bound
     }
-    bound
 }
 
 // The marks from the last job to the first, where `most` parts are kept in all: a job is kept where these are reached by the bound with it kept.
 // `mandatory` is all mandatory ticks; the bound is without those of the jobs still to come.
-fn read_back(
-    jobs: [Job; MAX_TASKS],
-    count: usize,
-    rows: &[u32],
-    most: usize,
-    mandatory: u32,
-) -> [bool; MAX_TASKS]
-    requires count_le_max_tasks { count ≤ max_tasks }
-    requires most_le_count { most ≤ count }
-    requires all_bounded { AllBounded jobs count }
-    requires room_for { RoomFor count (length rows.now) }
-    requires rows_kept { RowsKept (λ k. get_or jobs k no_job) count 0 rows.now }
-    requires mandatory_value { mandatory ≡ mandatory_sum (jobs_in jobs count) }
-    requires most_bound { earliest_of (jobs_in jobs count) most < huge_ticks }
-    ensures { keeps_in result count ≡ marks_back (jobs_in jobs count) most }
+fn read_back(jobs: &[Job], rows: &[u32], most: usize, mandatory: u32) -> [bool; MAX_TASKS]
+    requires count_le_max_tasks { length jobs.now ≤ max_tasks }
+    requires most_le_count { most ≤ length jobs.now }
+    requires all_bounded { AllBounded jobs.now }
+    requires room_for { RoomFor (length jobs.now) (length rows.now) }
+    requires rows_kept { RowsKept (λ k. get_or jobs.now k no_job) (length jobs.now) 0 rows.now }
+    requires mandatory_value { mandatory ≡ mandatory_sum jobs.now }
+    requires most_bound { earliest_of jobs.now most < huge_ticks }
+    ensures { keeps_in result (length jobs.now) ≡ marks_back jobs.now most }
 {
     let mut keeps = [false; MAX_TASKS];
     let mut v = most;
     let mut left = mandatory;
     let mut bound = HUGE - 1 - mandatory;
-    let mut i: usize = 0;
-    while i < count {
-        let job = jobs[i];
-        let room = lesser(minus(job.deadline, left), bound);
+    for (i, job) in jobs.iter().enumerate() {
+        let room = job.deadline.saturating_sub(left).min(bound);
         left -= job.mandatory;
-        let from = minus(job.release, left);
+        let from = job.release.saturating_sub(left);
         let keep = is_kept(
             rows,
             ROW_PLACES * (i + 1),
-            job,
+            *job,
             TimeLimits { from, room },
             v,
         );
         keeps[i] = keep;
-        bound = bound_before(job, keep, room, bound);
+        bound = bound_before(*job, keep, room, bound);
         if keep {
-            v -= choosing::worth(job);
+            v -= choosing::worth(*job);
         }
-        i += 1;
     }
     keeps
 }
 
-// The number of the optional parts above 0 ticks of the jobs at the first `count` places.
-fn parts_of(jobs: [Job; MAX_TASKS], count: usize) -> usize
-    requires { count ≤ max_tasks }
-    ensures { PartsOf jobs count result }
+// The number of the optional parts above 0 ticks of some jobs.
+fn parts_of(jobs: &[Job]) -> usize
+    requires { length jobs.now ≤ max_tasks }
+    ensures { PartsOf jobs.now result }
 {
-    let mut parts: usize = 0;
-    let mut i = count;
-    while 0 < i {
-        i -= 1;
-        let job = jobs[i];
-        parts += choosing::worth(job);
-    }
-    parts
+    jobs.iter().filter(|job| 0 < job.optional).count()
 }
 
 // Whether all work ends in time where every part is kept.
-fn all_fit(jobs: [Job; MAX_TASKS], count: usize) -> bool
-    requires count_le_max_tasks { count ≤ max_tasks }
-    requires all_bounded { AllBounded jobs count }
-    ensures { result ≡ fits_in_order (jobs_in jobs count) (same_marks true (jobs_in jobs count)) }
+fn all_fit(jobs: &[Job]) -> bool
+    requires all_bounded { AllBounded jobs.now }
+    ensures { result ≡ fits_in_order jobs.now (same_marks true jobs.now) }
 {
     let mut time: u32 = 0;
-    let mut i = count;
-    while 0 < i {
-        i -= 1;
+    for i in (0..jobs.len()).rev() {
         let job = jobs[i];
         let work = placing::work_with(job, true);
         let end = ending_at(job, work, time);
@@ -349,18 +286,18 @@ fn all_fit(jobs: [Job; MAX_TASKS], count: usize) -> bool
 }
 
 // The choice by rows, which stand in a lent list that is huge throughout. `parts` is the number of all parts above 0 ticks.
-fn choose_in(jobs: [Job; MAX_TASKS], count: usize, parts: usize, rows: &mut [u32]) -> Choice
-    requires count_le_max_tasks { count ≤ max_tasks }
-    requires all_bounded { AllBounded jobs count }
-    requires count_value { fits_in_order (jobs_in jobs count) (keep_none (jobs_in jobs count)) ≡ true }
-    requires parts_of { PartsOf jobs count parts }
-    requires room_for { RoomFor count (length rows.old) }
+fn choose_in(jobs: &[Job], parts: usize, rows: &mut [u32]) -> Choice
+    requires count_le_max_tasks { length jobs.now ≤ max_tasks }
+    requires all_bounded { AllBounded jobs.now }
+    requires count_value { fits_in_order jobs.now (keep_none jobs.now) ≡ true }
+    requires parts_of { PartsOf jobs.now parts }
+    requires room_for { RoomFor (length jobs.now) (length rows.old) }
     requires blank { Blank rows.old }
-    ensures { ChosenFor chosen_in_order (jobs_in jobs count) (keeps_in result.keeps count) result.kept result.discarded }
+    ensures { ChosenFor chosen_in_order jobs.now (keeps_in result.keeps (length jobs.now)) result.kept result.discarded }
 {
-    let counts = rows_of(jobs, count, rows);
+    let counts = rows_of(jobs, rows);
     let most = counts.most;
-    let keeps = read_back(jobs, count, rows, most, counts.mandatory);
+    let keeps = read_back(jobs, rows, most, counts.mandatory);
     Choice {
         keeps,
         kept: most as u32,
@@ -369,51 +306,48 @@ fn choose_in(jobs: [Job; MAX_TASKS], count: usize, parts: usize, rows: &mut [u32
 }
 
 // The same in a list of its own, which is HUGE throughout: a short one for few jobs, since to fill the one for all takes longer than to make their rows.
-fn choose_by_rows(jobs: [Job; MAX_TASKS], count: usize, parts: usize) -> Choice
-    requires count_le_max_tasks { count ≤ max_tasks }
-    requires all_bounded { AllBounded jobs count }
-    requires count_value { fits_in_order (jobs_in jobs count) (keep_none (jobs_in jobs count)) ≡ true }
-    requires parts_of { PartsOf jobs count parts }
-    ensures { ChosenFor chosen_in_order (jobs_in jobs count) (keeps_in result.keeps count) result.kept result.discarded }
+fn choose_by_rows(jobs: &[Job], parts: usize) -> Choice
+    requires count_le_max_tasks { length jobs.now ≤ max_tasks }
+    requires all_bounded { AllBounded jobs.now }
+    requires count_value { fits_in_order jobs.now (keep_none jobs.now) ≡ true }
+    requires parts_of { PartsOf jobs.now parts }
+    ensures { ChosenFor chosen_in_order jobs.now (keeps_in result.keeps (length jobs.now)) result.kept result.discarded }
 {
-    if count <= FEW {
+    if jobs.len() <= FEW {
         let mut rows = [HUGE; FEW_PLACES];
-        return choose_in(jobs, count, parts, &mut rows);
+        return choose_in(jobs, parts, &mut rows);
     }
     let mut rows = [HUGE; ALL_PLACES];
-    choose_in(jobs, count, parts, &mut rows)
+    choose_in(jobs, parts, &mut rows)
 }
 
-// The keep list of the similar jobs that stand last first at the first `count` places. Where every part can be kept, no row is made.
-pub fn choose(jobs: [Job; MAX_TASKS], count: usize) -> Choice
-    requires count_le_max_tasks { count ≤ max_tasks }
-    requires all_bounded { AllBounded jobs count }
-    requires count_value { fits_in_order (jobs_in jobs count) (keep_none (jobs_in jobs count)) ≡ true }
-    ensures { ChosenFor chosen_in_order (jobs_in jobs count) (keeps_in result.keeps count) result.kept result.discarded }
+// The keep list of similar jobs that stand last first. Where every part can be kept, no row is made.
+pub fn choose(jobs: &[Job]) -> Choice
+    requires count_le_max_tasks { length jobs.now ≤ max_tasks }
+    requires all_bounded { AllBounded jobs.now }
+    requires count_value { fits_in_order jobs.now (keep_none jobs.now) ≡ true }
+    ensures { ChosenFor chosen_in_order jobs.now (keeps_in result.keeps (length jobs.now)) result.kept result.discarded }
 {
-    let parts = parts_of(jobs, count);
-    if all_fit(jobs, count) {
+    let parts = parts_of(jobs);
+    if all_fit(jobs) {
         return Choice {
             keeps: [true; MAX_TASKS],
             kept: parts as u32,
             discarded: 0,
         };
     }
-    choose_by_rows(jobs, count, parts)
+    choose_by_rows(jobs, parts)
 }
 
-// The position of the first job in similar order whose mandatory ticks, run in order as early as they can, end after its deadline, and the count
-// where there is none. The jobs stand last first at the first `count` places.
-pub fn first_late(jobs: [Job; MAX_TASKS], count: usize) -> usize
-    requires count_le_max_tasks { count ≤ max_tasks }
-    requires all_bounded { AllBounded jobs count }
-    requires by_index { (k : ℕ) → k < count → (get_or jobs k no_job).position < count }
-    ensures { result ≡ first_late count (jobs_in jobs count) }
+// The position of the first job in similar order whose mandatory ticks, run in order as early as they can, end after its deadline, and the number of jobs
+// where there is none. The jobs stand last first.
+pub fn first_late(jobs: &[Job]) -> usize
+    requires all_bounded { AllBounded jobs.now }
+    requires by_index { (k : ℕ) → k < length jobs.now → (get_or jobs.now k no_job).position < length jobs.now }
+    ensures { result ≡ first_late (length jobs.now) jobs.now }
 {
     let mut time: u32 = 0;
-    let mut i = count;
-    while 0 < i {
-        i -= 1;
+    for i in (0..jobs.len()).rev() {
         let job = jobs[i];
         let end = ending_at(job, job.mandatory, time);
         if HUGE <= end {
@@ -421,36 +355,33 @@ pub fn first_late(jobs: [Job; MAX_TASKS], count: usize) -> usize
         }
         time = end;
     }
-    count
+    jobs.len()
 }
 
-// The runs of the similar jobs that stand last first at the first `count` places, under a keep list that fits, put by start into three lent
-// columns; what stands beyond them is kept. The number of runs is returned.
+// The runs of similar jobs that stand last first, under a keep list that fits, put by start into three lent columns; what stands beyond them is kept. The
+// number of runs is returned.
 pub fn place(
-    jobs: [Job; MAX_TASKS],
-    count: usize,
-    keeps: [bool; MAX_TASKS],
+    jobs: &[Job],
+    keeps: &[bool],
     starts: &mut [u32],
     ends: &mut [u32],
     tasks: &mut [u32],
 ) -> usize
-    requires count_le_max_tasks { count ≤ max_tasks }
-    requires all_bounded { AllBounded jobs count }
-    requires distinct { Distinct (positions (jobs_in jobs count)) }
-    requires count_value { fits_in_order (jobs_in jobs count) (keeps_in keeps count) ≡ true }
-    requires count_in_bounds { (count ≤ length starts.old) × (count ≤ length ends.old) × (count ≤ length tasks.old) }
-    ensures value { result ≡ length (runs_in_order (jobs_in jobs count) (keeps_in keeps count)) }
-    ensures runs_put { RunsPut (runs_in_order (jobs_in jobs count) (keeps_in keeps count)) starts ends tasks }
+    requires count_le_max_tasks { length jobs.now ≤ max_tasks }
+    requires all_bounded { AllBounded jobs.now }
+    requires distinct { Distinct (positions jobs.now) }
+    requires keeps_value { fits_in_order jobs.now keeps.now ≡ true }
+    requires count_in_bounds { (length jobs.now ≤ length starts.old) × (length jobs.now ≤ length ends.old) × (length jobs.now ≤ length tasks.old) }
+    ensures value { result ≡ length (runs_in_order jobs.now keeps.now) }
+    ensures runs_put { RunsPut (runs_in_order jobs.now keeps.now) starts ends tasks }
 {
     let mut time: u32 = 0;
     let mut runs: usize = 0;
-    let mut i = count;
-    while 0 < i {
-        i -= 1;
+    for i in (0..jobs.len()).rev() {
         let job = jobs[i];
         let work = placing::work_with(job, keeps[i]);
         if 0 < work {
-            let start = raised(time, job.release);
+            let start = time.max(job.release);
             time = start + work;
             starts[runs] = start;
             ends[runs] = time;

@@ -2,6 +2,13 @@
 use crate::small::PLACES;
 use table::Task;
 
+// The kinds of tables.
+#[derive(Clone, Copy, PartialEq, Eq)]
+pub enum Kind {
+    Nested,
+    Similar,
+}
+
 // Neither of two windows contains the other: one begins and ends before the other does.
 fn cross(a: Task, b: Task) -> bool {
     a.release < b.release && a.deadline < b.deadline
@@ -14,45 +21,39 @@ fn enclose(a: Task, b: Task) -> bool {
         || b.release < a.release && a.deadline < b.deadline
 }
 
-// Two tasks can't both be in a table of a kind.
-fn exclude(a: Task, b: Task, nested: bool) -> bool {
-    if nested {
-        return cross(a, b);
-    }
-    enclose(a, b)
-}
-
-// The tasks below `count` are of a kind: nested, where no two windows cross, or similar, where of no two tasks the one released earlier has the later
+// Two tasks can't both be in a table of a kind: of a nested one no two windows cross, and of a similar one no task that is released earlier has the later
 // deadline.
-fn is_of_kind(tasks: [Task; PLACES], count: usize, nested: bool) -> bool {
-    let mut pair: usize = 0;
-    while pair < 16 {
-        let a = pair / 4;
-        let b = pair % 4;
-        if a < count && b < count && exclude(tasks[a], tasks[b], nested) {
-            return false;
-        }
-        pair += 1;
+fn exclude(kind: Kind, a: Task, b: Task) -> bool {
+    match kind {
+        Kind::Nested => cross(a, b),
+        Kind::Similar => enclose(a, b),
     }
-    true
 }
 
-// The tasks below `count` are nested, as tables of both kinds are.
-pub fn is_nested(tasks: [Task; PLACES], count: usize) -> bool {
-    is_of_kind(tasks, count, true)
+// The tasks are of a kind.
+fn is_of_kind(tasks: &[Task], kind: Kind) -> bool {
+    tasks
+        .iter()
+        .all(|a| tasks.iter().all(|b| !exclude(kind, *a, *b)))
 }
 
-// The lowest position below `count` such that the table cut after it is of neither kind, and 4 where there is none.
-pub fn first_of_neither(tasks: [Task; PLACES], count: usize) -> usize {
-    let mut position: usize = 0;
-    while position < 4 {
-        if position < count
-            && !is_of_kind(tasks, position + 1, true)
-            && !is_of_kind(tasks, position + 1, false)
-        {
-            return position;
-        }
-        position += 1;
+// The tasks up to a number of them, of all that stand in the places.
+fn first_tasks(tasks: &[Task; PLACES], count: usize) -> &[Task] {
+    &tasks[..count.min(PLACES)]
+}
+
+// The kind by whose rules the tasks below `count` are planned: tables of both kinds are nested.
+pub fn kind_of(tasks: [Task; PLACES], count: usize) -> Kind {
+    if is_of_kind(first_tasks(&tasks, count), Kind::Nested) {
+        return Kind::Nested;
     }
-    4
+    Kind::Similar
+}
+
+// The lowest position below `count` such that the table cut after it is of neither kind, if there is one.
+pub fn first_of_neither(tasks: [Task; PLACES], count: usize) -> Option<usize> {
+    (0..count.min(PLACES)).find(|position| {
+        let cut = first_tasks(&tasks, *position + 1);
+        !is_of_kind(cut, Kind::Nested) && !is_of_kind(cut, Kind::Similar)
+    })
 }

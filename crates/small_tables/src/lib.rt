@@ -11,7 +11,7 @@ mod search;
 mod similar_order;
 mod small;
 
-pub use kinds::{first_of_neither, is_nested};
+pub use kinds::{Kind, first_of_neither, kind_of};
 pub use lists::EXCEEDED;
 pub use owners::{RUNS, same_runs};
 pub use runnings::{Runnings, all_runnings};

@@ -1,7 +1,5 @@
 // Plans of small tables, tick by tick: each tick has an owner, which is a position or nobody.
 
-use std::num::wrapping_add_u32;
-
 // The ticks 0 to 7. No window of a small table has the first or the last.
 pub const TICKS: usize = 8;
 
@@ -20,24 +18,19 @@ pub fn same_runs(
     ends: [u32; RUNS],
     tasks: [u32; RUNS],
 ) -> bool {
-    let mut wrong: u32 = 0;
+    let mut same = true;
     let mut last = NOBODY;
     let mut run: usize = 0;
-    let mut tick: u32 = 0;
-    while tick < 8 {
-        let owner = owners[tick as usize];
-        let later = wrapping_add_u32(launch, tick);
-        if owner != last {
-            if last != NOBODY {
-                wrong = wrong | ends[run % 7] ^ later;
-                run = run % 8 + 1;
-            }
-            if owner != NOBODY {
-                wrong = wrong | starts[run % 7] ^ later | tasks[run % 7] ^ owner;
-            }
+    for (tick, owner) in owners.iter().enumerate() {
+        let later = launch.wrapping_add(tick as u32);
+        if *owner != last && last != NOBODY {
+            same = same && ends.get(run) == Some(&later);
+            run = run.wrapping_add(1);
         }
-        last = owner;
-        tick += 1;
+        if *owner != last && *owner != NOBODY {
+            same = same && starts.get(run) == Some(&later) && tasks.get(run) == Some(owner);
+        }
+        last = *owner;
     }
-    wrong == 0 && run == runs
+    same && run == runs
 }

@@ -5,7 +5,6 @@
 // Every way to give the ticks to the tasks is a number, with a digit in the base 5 for each tick: 0 for none, and k + 1 for the task at position k.
 use crate::small;
 use crate::small::PLACES;
-use std::num::wrapping_add_u32;
 use table::Task;
 
 // What a task gets with a tick outside its window: more than any work.
@@ -19,7 +18,7 @@ const NO_RUNNING: u32 = 16;
 
 // The n-th tick from the first that a window can have, the release tick of frame 0, is in a task's window.
 fn holds_nth(task: Task, row: usize, n: u32) -> bool {
-    small::has_tick(task, row, wrapping_add_u32(small::release_tick(row, 0), n))
+    small::has_tick(task, row, small::release_tick(row, 0).wrapping_add(n))
 }
 
 // How many ways there are to give away the ticks from the first to the deadline of frame 4: four ticks with the period 3/2, and three with 1/1 and 5/4.
@@ -33,12 +32,10 @@ fn ways(row: usize) -> u32 {
 // What each task gets with each of four ticks, the four tasks of a tick one after the other: 1 for a tick of its window, and else OUTSIDE.
 fn gains(tasks: [Task; PLACES], row: usize) -> [u32; GAINS] {
     let mut gains = [OUTSIDE; GAINS];
-    let mut i: usize = 0;
-    while i < GAINS {
+    for (i, gain) in gains.iter_mut().enumerate() {
         if holds_nth(tasks[i % 4], row, (i / 4) as u32) {
-            gains[i] = 1;
+            *gain = 1;
         }
-        i += 1;
     }
     gains
 }
@@ -47,14 +44,12 @@ fn gains(tasks: [Task; PLACES], row: usize) -> [u32; GAINS] {
 fn shares(gains: [u32; GAINS], way: u32) -> [u32; PLACES] {
     let mut shares = [0u32; PLACES];
     let mut rest = way;
-    let mut tick: usize = 0;
-    while tick < 4 {
+    for tick in 0..4 {
         let digit = (rest % 5) as usize;
         if digit != 0 {
-            shares[digit - 1] = wrapping_add_u32(shares[digit - 1], gains[tick * 4 + digit - 1]);
+            shares[digit - 1] = shares[digit - 1].wrapping_add(gains[tick * 4 + digit - 1]);
         }
         rest = rest / 5;
-        tick += 1;
     }
     shares
 }
@@ -62,7 +57,7 @@ fn shares(gains: [u32; GAINS], way: u32) -> [u32; PLACES] {
 // What a task that gets so many ticks adds to the parts discarded: 1 where these are its mandatory ticks alone, 0 where they are all its ticks, also where
 // its optional part has 0.
 fn discards(task: Task, ticks: u32) -> u32 {
-    if ticks == wrapping_add_u32(task.mandatory, task.optional) {
+    if ticks == task.mandatory.wrapping_add(task.optional) {
         return 0;
     }
     if ticks == task.mandatory {
@@ -78,7 +73,7 @@ fn discarded(tasks: [Task; PLACES], gains: [u32; GAINS], way: u32) -> u32 {
     let b = discards(tasks[1], shares[1]);
     let c = discards(tasks[2], shares[2]);
     let d = discards(tasks[3], shares[3]);
-    wrapping_add_u32(wrapping_add_u32(a, b), wrapping_add_u32(c, d))
+    a.wrapping_add(b).wrapping_add(c.wrapping_add(d))
 }
 
 // All runnings of a table: how many there are, and the fewest parts that one of them discards, which is NO_RUNNING where there are none.
@@ -94,16 +89,12 @@ pub fn all_runnings(tasks: [Task; PLACES], row: usize) -> Runnings {
     let ways = ways(row);
     let mut count: u32 = 0;
     let mut fewest = NO_RUNNING;
-    let mut way: u32 = 0;
-    while way < ways {
+    for way in 0..ways {
         let discarded = discarded(tasks, gains, way);
         if discarded < NO_RUNNING {
-            count = wrapping_add_u32(count, 1);
+            count = count.wrapping_add(1);
         }
-        if discarded < fewest {
-            fewest = discarded;
-        }
-        way += 1;
+        fewest = fewest.min(discarded);
     }
     Runnings { count, fewest }
 }

@@ -1,5 +1,4 @@
 // Small tables: every table of a family by its index.
-use std::num::wrapping_add_u32;
 use table::{NO_TASK, Task};
 
 // The most tasks of a small table.
@@ -22,39 +21,54 @@ pub struct Family {
 
 // The windows in frames, release and deadline in turn: at places 0 to 9 all ten within frames 0 to 4, those of more than one frame first; at 10 to 12 three
 // one in the other, and at 13 to 15 three of which each begins and ends before the next.
-const WINDOWS: [u32; 32] = [
-    0, 2, 0, 3, 0, 4, 1, 3, 1, 4, 2, 4, 0, 1, 1, 2, 2, 3, 3, 4, 0, 7, 1, 6, 2, 5, 0, 4, 1, 6, 3, 7,
+const WINDOWS: [(u32, u32); 16] = [
+    (0, 2),
+    (0, 3),
+    (0, 4),
+    (1, 3),
+    (1, 4),
+    (2, 4),
+    (0, 1),
+    (1, 2),
+    (2, 3),
+    (3, 4),
+    (0, 7),
+    (1, 6),
+    (2, 5),
+    (0, 4),
+    (1, 6),
+    (3, 7),
 ];
 
-// The release ticks of the frames 0 to 7 with the period 1/1, and of the frames 0 to 4 with 3/2 and with 5/4, eight places each: a release waits for the end
-// of its frame.
-const RELEASES: [u32; 24] = [
-    1, 2, 3, 4, 5, 6, 7, 8, 2, 3, 5, 6, 8, 0, 0, 0, 2, 3, 4, 5, 7, 0, 0, 0,
+// The release ticks of the frames 0 to 7 with the period 1/1, and of the frames 0 to 4 with 3/2 and with 5/4: a release waits for the end of its frame.
+const RELEASES: [[u32; 8]; 3] = [
+    [1, 2, 3, 4, 5, 6, 7, 8],
+    [2, 3, 5, 6, 8, 0, 0, 0],
+    [2, 3, 4, 5, 7, 0, 0, 0],
 ];
 
 // The deadline ticks of these frames.
-const DEADLINES: [u32; 24] = [
-    0, 1, 2, 3, 4, 5, 6, 7, 0, 1, 3, 4, 6, 0, 0, 0, 0, 1, 2, 3, 5, 0, 0, 0,
+const DEADLINES: [[u32; 8]; 3] = [
+    [0, 1, 2, 3, 4, 5, 6, 7],
+    [0, 1, 3, 4, 6, 0, 0, 0],
+    [0, 1, 2, 3, 5, 0, 0, 0],
 ];
 
 // The release tick of a frame in a row of ticks.
 pub fn release_tick(row: usize, frame: u32) -> u32 {
-    RELEASES[row % 3 * 8 + (frame % 8) as usize]
+    RELEASES[row % 3][(frame % 8) as usize]
 }
 
 // The deadline tick of a frame in a row of ticks.
 pub fn deadline_tick(row: usize, frame: u32) -> u32 {
-    DEADLINES[row % 3 * 8 + (frame % 8) as usize]
+    DEADLINES[row % 3][(frame % 8) as usize]
 }
 
 // The ticks of a task's window: none where the deadline is not after the release.
 pub fn window_ticks(task: Task, row: usize) -> u32 {
     let release = release_tick(row, task.release);
     let deadline = deadline_tick(row, task.deadline);
-    if deadline <= release {
-        return 0;
-    }
-    deadline - release
+    deadline.saturating_sub(release)
 }
 
 // A tick is in a task's window.
@@ -64,10 +78,10 @@ pub fn has_tick(task: Task, row: usize, tick: u32) -> bool {
 
 // A task with the window at a place of the windows.
 fn task(window: u32, mandatory: u32, optional: u32) -> Task {
-    let place = (window % 16) as usize * 2;
+    let (release, deadline) = WINDOWS[(window % 16) as usize];
     Task {
-        release: WINDOWS[place],
-        deadline: WINDOWS[place + 1],
+        release,
+        deadline,
         mandatory,
         optional,
     }
@@ -85,14 +99,10 @@ pub fn tasks_of(family: Family, index: u32) -> [Task; PLACES] {
     let lengths = family.optional % 4 + 1;
     let mut tasks = [NO_TASK; PLACES];
     let mut rest = index;
-    let mut k: usize = 0;
-    while k < PLACES {
-        if k < family.count {
-            let window = wrapping_add_u32(family.first, rest / lengths / 2 % windows);
-            tasks[k] = task(window, rest / lengths % 2, rest % lengths);
-            rest = rest / lengths / 2 / windows;
-        }
-        k += 1;
+    for place in tasks.iter_mut().take(family.count) {
+        let window = family.first.wrapping_add(rest / lengths / 2 % windows);
+        *place = task(window, rest / lengths % 2, rest % lengths);
+        rest = rest / lengths / 2 / windows;
     }
     tasks
 }

@@ -6,15 +6,16 @@ use mathlib.Core.Bool.{Bool, true, false, not, not-not}
 use native.Mathlib.Omega.{arith}
 use native.Mathlib.Decide.{dec_le, dec_lt}
 use lib.Dec.{leb}
-use borrow.Author.Tests.{ltb-false, le-ltb, le-leb, lt-leb, not-true, not-false}
+use borrow.Author.Tests.{ltb-false, le-ltb, lt-ltb, le-leb, lt-leb, not-true, not-false}
 use Rattle.base.specs.Tests.{and, or}
-use Rattle.base.specs.Lowest.{lowest, some_below}
+use Rattle.base.specs.Lowest.{lowest, some_below, found}
 use Rattle.base.proofs.TestLaws.{cases, both_absurd, and_true, and_left, and_right, or_first, or_second}
 use Rattle.base.proofs.LowestLaws.{none_passes, no_some, none_some, some_same, lowest_both}
+use Rattle.base.proofs.FoundLaws.{found_lowest, nothing_found}
+use Rattle.std.specs.Prelude.{Some, None, Err}
 use Rattle.table.specs.declared.Task.{Task}
 use Rattle.table.specs.declared.Table.{Table}
-use Rattle.table.specs.declared.Answer.{Answer}
-use Rattle.table.specs.declared.Answer.TheVariants.{Accepted, Window, Kind}
+use Rattle.table.specs.declared.Refusal.TheVariants.{Window, Kind}
 use Rattle.table.specs.Tables.{task_at, Same}
 use Rattle.table.specs.Windows.{bad_window, contains, nested, no_later, similar}
 use Rattle.table.specs.Kinds.{
@@ -31,7 +32,7 @@ use Rattle.table.specs.Kinds.{
   nested_answer,
 }
 use Rattle.table.specs.WindowColumns.{greatest_number}
-use Rattle.table.specs.Answers.{first_refusal}
+use Rattle.table.specs.Answers.{Answer, Accepted, first_refusal}
 use Rattle.table.specs.Writing.{Legal}
 use Rattle.table.proofs.AnswerLaws.{first_refusal-known, first_refusal-test, none_refused, refused_none, refused_same}
 
@@ -135,10 +136,15 @@ neither_place at n =
     lowest_both (fails_earlier nested at) (fails_earlier similar at) (of_neither_kind at) n (λ k l.
     ap₂ and (not-not (some_below (fails_earlier nested at) (suc k))) (not-not (some_below (fails_earlier similar at) (suc k))))
 
--- So it is the higher of the two where they are known.
-pub neither_higher : (at : ℕ → Task) (n crossing dissimilar higher : ℕ) → crossing ≡ lowest (fails_earlier nested at) n → dissimilar ≡ lowest (fails_earlier similar at) n
-    → higher ≡ max crossing dissimilar → higher ≡ lowest (of_neither_kind at) n
-neither_higher at n crossing dissimilar higher e f h = h ∙ (ap₂ max e f ∙ sym (neither_place at n))
+-- So it is the higher of the two where both are found.
+pub neither_refused : (at : ℕ → Task) (n crossing dissimilar : ℕ) → Some crossing ≡ found (fails_earlier nested at) n → Some dissimilar ≡ found (fails_earlier similar at) n
+    → Err (Kind (max crossing dissimilar)) ≡ kind_answer at n
+unfolding kind_answer
+neither_refused at n crossing dissimilar e f =
+    let first = found_lowest (fails_earlier nested at) n crossing e in
+    let second = found_lowest (fails_earlier similar at) n dissimilar f in
+    let place : lowest (of_neither_kind at) n ≡ max crossing dissimilar = omega (arith, neither_place at n) in
+    rw (place, lt-ltb (max crossing dissimilar) n (omega arith))
 
 -- Document 01's place of 7, for nested tables alone, is never higher.
 pub nesting_first : (at : ℕ → Task) (n : ℕ) → lowest (fails_earlier nested at) n ≤ lowest (of_neither_kind at) n
@@ -153,15 +159,15 @@ found_pairs : (pair : Task → Task → Bool) (at : ℕ → Task) (n : ℕ) → 
 unfolding pairwise some_below
 found_pairs pair at n e = ltb-false (lowest (fails_earlier pair at) n) n (not-true (some_below (fails_earlier pair at) n) e)
 
--- They are nested where the first task that is not nested with some earlier one, which is known, lies beyond them.
-pub nested_found : (at : ℕ → Task) (n crossing : ℕ) → crossing ≡ lowest (fails_earlier nested at) n → n ≤ crossing → pairwise nested at n ≡ true
-nested_found at n crossing e l = pairs_found nested at n (omega arith)
+-- So they do where no such task is found.
+pub pairs_unfound : (pair : Task → Task → Bool) (at : ℕ → Task) (n : ℕ) → None ≡ found (fails_earlier pair at) n → pairwise pair at n ≡ true
+pairs_unfound pair at n e = pairs_found pair at n (nothing_found (fails_earlier pair at) n e)
 
 -- Tasks to which 7 is not sent are of one kind or the other.
 pub kind_known : (at : ℕ → Task) (n : ℕ) → kind_answer at n ≡ Accepted → (pairwise nested at n ≡ true) ⊎ (pairwise similar at n ≡ true)
 unfolding kind_answer
 kind_known at n e =
-    let none : lowest (of_neither_kind at) n ≡ n = none_passes (of_neither_kind at) n (refused_none Kind (λ k. refl) (of_neither_kind at) n e) in
+    let none : lowest (of_neither_kind at) n ≡ n = none_passes (of_neither_kind at) n (refused_none Kind (of_neither_kind at) n e) in
     elim (dec_le n (lowest (fails_earlier nested at) n)) [
       | yes l ↦ inl (pairs_found nested at n l)
       | no l ↦ inr (pairs_found similar at n (omega (arith, neither_place at n)))
@@ -246,7 +252,7 @@ unfolding table_windows_answer windows_answer bad_window_answer is_nested is_sim
 window_known t e =
     let z = first_refusal-known (bad_window_answer (task_at t) t.count) (kind_answer (task_at t) t.count) e in
     record {
-      good = refused_none Window (λ k. refl) (λ k. bad_window (task_at t k)) t.count z.0;
+      good = refused_none Window (λ k. bad_window (task_at t k)) t.count z.0;
       kind = kind_known (task_at t) t.count z.1;
     }
 
@@ -284,9 +290,9 @@ nested_known own t e =
     let at : ℕ → Task = task_at t in
     let z = first_refusal-known (bad_window_answer at t.count) (first_refusal own (nesting_answer at t.count)) e in
     let rest = first_refusal-known own (nesting_answer at t.count) z.1 in
-    let none = none_passes (fails_earlier nested at) t.count (refused_none Kind (λ k. refl) (fails_earlier nested at) t.count rest.1) in
+    let none = none_passes (fails_earlier nested at) t.count (refused_none Kind (fails_earlier nested at) t.count rest.1) in
     record {
-      good = refused_none Window (λ k. refl) (λ k. bad_window (at k)) t.count z.0;
+      good = refused_none Window (λ k. bad_window (at k)) t.count z.0;
       ruled = rest.0;
       nesting = pairs_found nested at t.count (omega (arith, none));
     }

@@ -15,10 +15,8 @@ use Rattle.base.proofs.TestLaws.{both_absurd, or_left, or_right}
 use Rattle.base.proofs.LowestLaws.{before, lowest_bound}
 use Rattle.table.specs.declared.Task.{Task}
 use Rattle.table.specs.declared.Table.{Table}
-use Rattle.table.specs.declared.Answer.{Answer}
-use Rattle.table.specs.declared.Answer.TheVariants.{Accepted}
 use Rattle.table.specs.Tables.{task_at, table_of}
-use Rattle.table.specs.Answers.{number_of, place_of, is_accepted, declined, wrote}
+use Rattle.table.specs.Answers.{Answer, Accepted, number_of, place_of, is_accepted, declined, wrote}
 use Rattle.table.specs.Windows.{bad_window, contains, nested, no_later, similar}
 use Rattle.table.specs.Kinds.{windows_answer, table_windows_answer}
 use Rattle.table.specs.Reading.{table_in, read_answer, read_reply}

@@ -4,10 +4,9 @@ use Rattle.base.specs.Tests.{and}
 use Rattle.base.specs.Lowest.{some_below}
 use Rattle.table.specs.declared.Task.{Task}
 use Rattle.table.specs.declared.Table.{Table}
-use Rattle.table.specs.declared.Answer.{Answer}
-use Rattle.table.specs.declared.Answer.TheVariants.{Window, Kind}
+use Rattle.table.specs.declared.Refusal.TheVariants.{Window, Kind}
 use Rattle.table.specs.Tables.{task_at}
-use Rattle.table.specs.Answers.{first_refusal, lowest_refusal}
+use Rattle.table.specs.Answers.{Answer, first_refusal, lowest_refusal}
 use Rattle.table.specs.Windows.{bad_window, nested, similar}
 
 -- the task at position k fails a test of pairs with some earlier one

@@ -2,18 +2,22 @@
 // the answers, and the reply of calls that write.
 #![tactic(auto)]
 
-ghost use Rattle.std.specs.Prelude.{◌≡◌, not, ◌≤◌, ◌<◌, min, length, get_or};
+ghost use Rattle.std.specs.Prelude.{◌≡◌, ◌≤◌, ◌<◌, min, length, get_or, position};
 ghost use Rattle.base.specs.Limits.{max_tasks, bad_period};
-ghost use Rattle.base.specs.Lowest.{lowest, some_below};
 ghost use Rattle.table.specs.Tables.{no_task, no_table, task_at, table_of};
-ghost use Rattle.table.specs.Answers.{number_of, place_of, declined, wrote};
+ghost use Rattle.table.specs.declared.WriteRefusal.TheVariants.{Rule};
+ghost use Rattle.table.specs.Answers.{refusal_number, refusal_place, write_number, write_place, declined, wrote, written_of};
 ghost use Rattle.table.specs.Windows.{bad_window, contains, nested};
-ghost use Rattle.table.specs.Kinds.{fails_earlier, bad_window_answer, kind_answer, nested_answer, nesting_answer, of_neither_kind, table_windows_answer, windows_answer};
-ghost use Rattle.table.specs.WindowColumns.{window_at, windows_lent, FramesOf, Mirrored};
+ghost use Rattle.table.specs.Kinds.{bad_window_answer, nested_answer, table_windows_answer};
+ghost use Rattle.table.specs.WindowColumns.{Holds};
 ghost use Rattle.table.specs.Layout.{bad_count, rows_length, file_length};
 ghost use Rattle.table.specs.RowLimits.{widest_row};
 
+mod rules;
+mod windows;
+
 use base::{MAX_PERIOD, MAX_TASKS};
+pub use windows::Windows;
 
 // The widths of a file's fields in bits: the task count, p and q, a frame, a number of ticks.
 pub const COUNT_WIDTH: usize = 7;
@@ -39,18 +43,12 @@ pub const FILE_BYTES_READ: usize = MAX_FILE + 1;
 pub fn bytes_read(length: usize, size: usize) -> usize
     ensures { result ≡ min length size }
 {
-    if size < length {
-        return size;
-    }
-    length
+    length.min(size)
 }
-
-// The greatest number of 32 bits.
-const GREATEST: u32 = 4_294_967_295;
 
 // A task: its window in frames, and its two lengths in ticks.
 #[repr(C)]
-#[derive(Clone, Copy)]
+#[derive(Clone, Copy, Debug, PartialEq, Eq)]
 pub struct Task {
     pub release: u32,
     pub deadline: u32,
@@ -68,7 +66,7 @@ pub const NO_TASK: Task = Task {
 
 // A table: how many tasks it has, its period p/q, and places for its tasks.
 #[repr(C)]
-#[derive(Clone, Copy)]
+#[derive(Clone, Copy, Debug, PartialEq, Eq)]
 pub struct Table {
     pub count: u32,
     pub p: u32,
@@ -76,17 +74,9 @@ pub struct Table {
     pub tasks: [Task; MAX_TASKS],
 }
 
-// The frames of tasks in two columns: the release frames, and the deadline frames.
-#[derive(Clone, Copy)]
-struct FrameColumns {
-    releases: [u32; MAX_TASKS],
-    deadlines: [u32; MAX_TASKS],
-}
-
-// What reading answers: a case for each cause of a refusal, with its place where it has one of its own.
-#[derive(Clone, Copy)]
-pub enum Answer {
-    Accepted,
+// Why reading refuses: a case for each cause, with its place where it has one of its own.
+#[derive(Clone, Copy, Debug, PartialEq, Eq)]
+pub enum Refusal {
     // Fewer than 4 bytes, or fewer than the count needs; the file's length.
     Short(usize),
     // The task count is 0 or above the limit.
@@ -105,13 +95,6 @@ pub enum Answer {
     Weight(usize),
 }
 
-// The reply of reading: the answer, and the table.
-#[derive(Clone, Copy)]
-pub struct Reading {
-    pub answer: Answer,
-    pub table: Table,
-}
-
 // The reply of writing, of moving and of showing a file as text: the refusal's number and place, or 0 and the number of bytes written.
 #[repr(C)]
 #[derive(Clone, Copy)]
@@ -121,38 +104,91 @@ pub struct Written {
     pub bytes: usize,
 }
 
-impl Answer {
-    // The number of the answer's refusal, and 0 where nothing is refused.
+impl Refusal {
+    // The refusal's number.
     pub fn number(self) -> u32
-        ensures { result ≡ number_of self }
+        ensures { result ≡ refusal_number self }
     {
         match self {
-            Answer::Accepted => 0,
-            Answer::Short(_) => 1,
-            Answer::Count => 2,
-            Answer::Long(_) => 3,
-            Answer::Padding => 4,
-            Answer::Period => 5,
-            Answer::Window(_) => 6,
-            Answer::Kind(_) => 7,
-            Answer::Weight(_) => 16,
+            Refusal::Short(_) => 1,
+            Refusal::Count => 2,
+            Refusal::Long(_) => 3,
+            Refusal::Padding => 4,
+            Refusal::Period => 5,
+            Refusal::Window(_) => 6,
+            Refusal::Kind(_) => 7,
+            Refusal::Weight(_) => 16,
         }
     }
 
-    // The place of the answer's refusal, and 0 where it has none.
+    // The refusal's place, and 0 where it has none.
     pub fn place(self) -> usize
-        ensures { result ≡ place_of self }
+        ensures { result ≡ refusal_place self }
     {
         match self {
-            Answer::Accepted => 0,
-            Answer::Short(length) => length,
-            Answer::Count => 0,
-            Answer::Long(needed) => needed,
-            Answer::Padding => 0,
-            Answer::Period => 0,
-            Answer::Window(position) => position,
-            Answer::Kind(position) => position,
-            Answer::Weight(position) => position,
+            Refusal::Short(length) => length,
+            Refusal::Long(needed) => needed,
+            Refusal::Window(position) | Refusal::Kind(position) | Refusal::Weight(position) =>
+                position,
+            Refusal::Count | Refusal::Padding | Refusal::Period => 0,
+        }
+    }
+}
+
+// Why a call that writes bytes refuses.
+#[derive(Clone, Copy, Debug, PartialEq, Eq)]
+pub enum WriteRefusal {
+    // A rule that reading has too.
+    Rule(Refusal),
+    // A field of a task is wider than its bits; the task's position.
+    Wide(usize),
+    // A moved frame of a task is outside; the task's position.
+    Outside(usize),
+    // The lent list is too short.
+    Room,
+}
+
+impl WriteRefusal {
+    // The refusal's number.
+    pub fn number(self) -> u32
+        ensures { result ≡ write_number self }
+    {
+        match self {
+            WriteRefusal::Rule(refusal) => refusal.number(),
+            WriteRefusal::Room => 9,
+            WriteRefusal::Outside(_) => 10,
+            WriteRefusal::Wide(_) => 12,
+        }
+    }
+
+    // The refusal's place, and 0 where it has none.
+    pub fn place(self) -> usize
+        ensures { result ≡ write_place self }
+    {
+        match self {
+            WriteRefusal::Rule(refusal) => refusal.place(),
+            WriteRefusal::Outside(position) | WriteRefusal::Wide(position) => position,
+            WriteRefusal::Room => 0,
+        }
+    }
+}
+
+impl From<Refusal> for WriteRefusal {
+    ghost from_gives = { λ refusal refused. refused ≡ Rule refusal };
+
+    fn from(refusal: Refusal) -> WriteRefusal {
+        WriteRefusal::Rule(refusal)
+    }
+}
+
+// The reply of a call by what it comes to: how many bytes it wrote, or why it refuses.
+impl From<Result<usize, WriteRefusal>> for Written {
+    ghost from_gives = { λ written reply. reply ≡ written_of written };
+
+    fn from(written: Result<usize, WriteRefusal>) -> Written {
+        match written {
+            Ok(bytes) => Written::wrote(bytes),
+            Err(refusal) => Written::declined(refusal.number(), refusal.place()),
         }
     }
 }
@@ -192,19 +228,7 @@ pub fn bad_count(count: u32) -> bool
 pub fn bad_period(p: u32, q: u32) -> bool
     ensures { result ≡ bad_period p q }
 {
-    if p == 0 {
-        return true;
-    }
-    if q == 0 {
-        return true;
-    }
-    if MAX_PERIOD < p {
-        return true;
-    }
-    if MAX_PERIOD < q {
-        return true;
-    }
-    p < q
+    p == 0 || q == 0 || MAX_PERIOD < p || MAX_PERIOD < q || p < q
 }
 
 // The bytes of a file of `count` rows of `width` bits.
@@ -213,7 +237,7 @@ pub fn rows_length(width: usize, count: u32) -> usize
     requires count_le_max_tasks { count ≤ max_tasks }
     ensures { result ≡ rows_length width count }
 {
-    (HEADER_WIDTH + width * (count as usize) + 7) / 8
+    (HEADER_WIDTH + width * count as usize).div_ceil(8)
 }
 
 // The bytes of a file of `count` tasks.
@@ -231,6 +255,13 @@ pub fn is_bad_window(task: Task) -> bool
     task.deadline <= task.release
 }
 
+// The first of some tasks whose window is bad.
+fn first_bad(tasks: &[Task]) -> Option<usize>
+    ensures { result ≡ position bad_window tasks.now }
+{
+    tasks.iter().position(|task| is_bad_window(*task))
+}
+
 // The window of `a` contains that of `b`.
 fn window_contains(a: Task, b: Task) -> bool
     ensures { result ≡ contains a b }
@@ -245,189 +276,15 @@ fn are_nested(a: Task, b: Task) -> bool
     window_contains(a, b) | window_contains(b, a)
 }
 
-// The window at a place of two columns, as a task of no ticks.
-fn window_at(releases: &[u32], deadlines: &[u32], k: usize) -> Task
-    requires { (k < length releases.now) × (k < length deadlines.now) }
-    ensures { result ≡ windows_lent releases deadlines k }
-{
-    Task {
-        release: releases[k],
-        deadline: deadlines[k],
-        mandatory: 0,
-        optional: 0,
-    }
-}
-
-// The window of a task is not nested with some of the first `count` windows that stand in two columns. All of them are looked at, without a branch.
-fn crosses_earlier(task: Task, releases: &[u32], deadlines: &[u32], count: usize) -> bool
-    requires { (count ≤ length releases.now) × (count ≤ length deadlines.now) }
-    ensures { result ≡ some_below (λ j. not (nested (windows_lent releases deadlines j) task)) count }
-{
-    let mut crossing = false;
-    let mut j: usize = 0;
-    while j < count {
-        let earlier = window_at(releases, deadlines, j);
-        crossing = crossing | !are_nested(earlier, task);
-        j += 1;
-    }
-    crossing
-}
-
-// The lowest position below the count whose window is bad, of windows that stand in two columns, and the count where none is.
-fn first_bad_window(releases: &[u32], deadlines: &[u32], count: usize) -> usize
-    requires { (count ≤ length releases.now) × (count ≤ length deadlines.now) }
-    ensures { result ≡ lowest (λ k. bad_window (windows_lent releases deadlines k)) count }
-{
-    let mut k: usize = 0;
-    while k < count {
-        let window = window_at(releases, deadlines, k);
-        if is_bad_window(window) {
-            return k;
-        }
-        k += 1;
-    }
-    k
-}
-
-// The lowest position below the count whose window is not nested with that of some earlier one, of windows that stand in two columns, and the
-// count where there is none.
-fn first_crossing(releases: &[u32], deadlines: &[u32], count: usize) -> usize
-    requires { (count ≤ length releases.now) × (count ≤ length deadlines.now) }
-    ensures { result ≡ lowest (fails_earlier nested (windows_lent releases deadlines)) count }
-{
-    let mut k: usize = 0;
-    while k < count {
-        let window = window_at(releases, deadlines, k);
-        if crosses_earlier(window, releases, deadlines, k) {
-            return k;
-        }
-        k += 1;
-    }
-    k
-}
-
-// The first deadlines of a column mirrored: of two the later becomes the lesser. Windows are similar exactly where they are nested with their
-// deadlines mirrored.
-fn mirrored(deadlines: &[u32], count: usize) -> [u32; MAX_TASKS]
-    requires count_le_max_tasks { count ≤ max_tasks }
-    requires count_in_bounds { count ≤ length deadlines.now }
-    ensures { Mirrored count deadlines.now result }
-{
-    let mut column = [0u32; MAX_TASKS];
-    let mut k: usize = 0;
-    while k < count {
-        column[k] = GREATEST - deadlines[k];
-        k += 1;
-    }
-    column
-}
-
-// The lowest position below the count such that the windows up to it are of neither kind, of windows that stand in two columns, and the count where
-// there is none. It is the greater of the first that crosses an earlier window, which is known, and the first that is not similar to one.
-fn first_of_neither(releases: &[u32], deadlines: &[u32], count: usize, crossing: usize) -> usize
-    requires count_le_max_tasks { count ≤ max_tasks }
-    requires count_in_bounds { (count ≤ length releases.now) × (count ≤ length deadlines.now) }
-    requires crossing_value { crossing ≡ lowest (fails_earlier nested (window_at releases.now deadlines.now)) count }
-    ensures { result ≡ lowest (of_neither_kind (windows_lent releases deadlines)) count }
-{
-    let column = mirrored(deadlines, count);
-    let dissimilar = first_crossing(releases, &column, count);
-    if dissimilar < crossing {
-        return crossing;
-    }
-    dissimilar
-}
-
-// The first of the windows in two columns that is bad, as an answer.
-fn bad_window_answer(releases: &[u32], deadlines: &[u32], count: usize) -> Answer
-    requires { (count ≤ length releases.now) × (count ≤ length deadlines.now) }
-    ensures { result ≡ bad_window_answer (windows_lent releases deadlines) count }
-{
-    let bad = first_bad_window(releases, deadlines, count);
-    if bad < count {
-        return Answer::Window(bad);
-    }
-    Answer::Accepted
-}
-
-// The first position such that the windows in two columns up to it are of neither kind, as an answer. Where none crosses an earlier one all are nested,
-// and nothing else is looked for.
-fn kind_answer(releases: &[u32], deadlines: &[u32], count: usize) -> Answer
-    requires count_le_max_tasks { count ≤ max_tasks }
-    requires count_in_bounds { (count ≤ length releases.now) × (count ≤ length deadlines.now) }
-    ensures { result ≡ kind_answer (windows_lent releases deadlines) count }
-{
-    let crossing = first_crossing(releases, deadlines, count);
-    if count <= crossing {
-        return Answer::Accepted;
-    }
-    let neither = first_of_neither(releases, deadlines, count, crossing);
-    if neither < count {
-        return Answer::Kind(neither);
-    }
-    Answer::Accepted
-}
-
-// The first of the windows in two columns that crosses an earlier one, as an answer: 7 as document 01 has it, for forms of table that are nested alone.
-fn nesting_answer(releases: &[u32], deadlines: &[u32], count: usize) -> Answer
-    requires { (count ≤ length releases.now) × (count ≤ length deadlines.now) }
-    ensures { result ≡ nesting_answer (windows_lent releases deadlines) count }
-{
-    let crossing = first_crossing(releases, deadlines, count);
-    if crossing < count {
-        return Answer::Kind(crossing);
-    }
-    Answer::Accepted
-}
-
-// What the windows in two columns answer together with a rule of the form's own, for forms of table that are nested alone: the first window that is bad,
-// else what the own rule answers, else the first window that crosses an earlier one, else nothing refused.
-pub fn nested_answer<'a>(
-    own: Answer,
-    releases: &'a [u32],
-    deadlines: &'a [u32],
-    count: usize,
-) -> Answer
-    requires { (count ≤ length releases.now) × (count ≤ length deadlines.now) }
-    ensures { result ≡ nested_answer own (windows_lent releases deadlines) count }
-{
-    let bad = bad_window_answer(releases, deadlines, count);
-    let Answer::Accepted = bad else {
-        return bad;
-    };
-    let Answer::Accepted = own else {
-        return own;
-    };
-    nesting_answer(releases, deadlines, count)
-}
-
-// What the windows in two columns answer: the first that is bad, else the first up to which they are of neither kind, else nothing refused.
-pub fn columns_answer<'a>(releases: &'a [u32], deadlines: &'a [u32], count: usize) -> Answer
-    requires count_le_max_tasks { count ≤ max_tasks }
-    requires count_in_bounds { (count ≤ length releases.now) × (count ≤ length deadlines.now) }
-    ensures { result ≡ windows_answer (windows_lent releases deadlines) count }
-{
-    let bad = bad_window_answer(releases, deadlines, count);
-    let Answer::Accepted = bad else {
-        return bad;
-    };
-    kind_answer(releases, deadlines, count)
-}
-
 impl Table {
     // The table of the first `count` of some tasks: every place beyond them is 0.
     pub fn new(count: u32, p: u32, q: u32, tasks: [Task; MAX_TASKS]) -> Table
         ensures { result ≡ table_of count p q (λ k. get_or tasks k no_task) }
     {
+        let places = (count as usize).min(MAX_TASKS);
         let mut kept = [NO_TASK; MAX_TASKS];
-        let mut places = count as usize;
-        if MAX_TASKS < places {
-            places = MAX_TASKS;
-        }
-        let mut i: usize = 0;
-        while i < places {
-            kept[i] = tasks[i];
-            i += 1;
+        for k in 0..places {
+            kept[k] = tasks[k];
         }
         Table {
             count,
@@ -437,13 +294,6 @@ impl Table {
         }
     }
 
-    // The table of the places as they stand, for a caller that has left every place beyond the count 0.
-    pub fn of_places(count: u32, p: u32, q: u32, tasks: [Task; MAX_TASKS]) -> Table
-        ensures { (result.count ≡ count) × (result.p ≡ p) × (result.q ≡ q) × (result.tasks ≡ tasks) }
-    {
-        Table { count, p, q, tasks }
-    }
-
     // The table that is 0 throughout.
     pub fn none() -> Table
         ensures { result ≡ no_table }
@@ -451,47 +301,43 @@ impl Table {
         Table::new(0, 0, 0, [NO_TASK; MAX_TASKS])
     }
 
-    // The frames of a table's tasks in two columns, so that the searches need not be lent the table.
-    fn frames(self) -> FrameColumns
+    // The windows of a table's tasks, so that the searches need not be lent the table.
+    fn windows(self) -> Windows
         requires { self.count ≤ max_tasks }
-        ensures { FramesOf (task_at self) self.count result.releases result.deadlines }
+        ensures { Holds result (task_at self) self.count }
     {
-        let mut releases = [0u32; MAX_TASKS];
-        let mut deadlines = [0u32; MAX_TASKS];
         let count = self.count as usize;
-        let mut k: usize = 0;
-        while k < count {
-            let task = self.tasks[k];
-            releases[k] = task.release;
-            deadlines[k] = task.deadline;
-            k += 1;
+        let mut windows = Windows::blank(count);
+        for (k, task) in self.tasks[..count].iter().enumerate() {
+            windows.set(k, *task);
         }
-        FrameColumns {
-            releases,
-            deadlines,
+        windows
+    }
+
+    // The first window of a table that is bad is refused. The tasks are looked at where they stand.
+    pub fn bad_window_answer(self) -> Result<(), Refusal>
+        requires { self.count ≤ max_tasks }
+        ensures { result ≡ bad_window_answer (task_at self) self.count }
+    {
+        match first_bad(&self.tasks[..self.count as usize]) {
+            Some(bad) => Err(Refusal::Window(bad)),
+            None => Ok(()),
         }
     }
 
-    // What the windows of a table answer: the first that is bad, else the first up to which they are of neither kind, else nothing refused.
-    pub fn window_answer(self) -> Answer
+    // What the windows of a table answer: the first that is bad is refused, else the first up to which they are of neither kind.
+    pub fn window_answer(self) -> Result<(), Refusal>
         requires { self.count ≤ max_tasks }
         ensures { result ≡ table_windows_answer self }
     {
-        let frames = self.frames();
-        columns_answer(&frames.releases, &frames.deadlines, self.count as usize)
+        self.windows().answer()
     }
 
-    // What the windows of a table answer together with a rule of the form's own, for forms of table that are nested alone.
-    pub fn nested_answer(self, own: Answer) -> Answer
+    // What they answer together with a rule of the form's own, for forms of table that are nested alone.
+    pub fn nested_answer(self, own: Result<(), Refusal>) -> Result<(), Refusal>
         requires { self.count ≤ max_tasks }
         ensures { result ≡ nested_answer own (task_at self) self.count }
     {
-        let frames = self.frames();
-        nested_answer(
-            own,
-            &frames.releases,
-            &frames.deadlines,
-            self.count as usize,
-        )
+        self.windows().nested_answer(own)
     }
 }

@@ -1,6 +1,5 @@
 // The comparisons of this program, on values that the case has.
 use crate::{lists, tables, writes};
-use table::Written;
 
 // A case: two tables, of which it is printed whether they are the same.
 pub fn tables(line: &[u8]) {
@@ -21,7 +20,7 @@ pub fn list(line: &[u8]) {
     let mut list = [0u8; 32];
     let length = cases::bytes(line, 1, &mut list);
     let bytes = cases::number(line, 2) as usize;
-    lists::show_written(Written::wrote(bytes), &list[..length]);
+    cases::show_written(0, 0, bytes, &list[..length]);
 }
 
 // A case: a table, which is printed, and whether the places beyond its tasks are 0.

@@ -1,21 +1,20 @@
 // Moving.
 use crate::{lists, tables};
+use table::Table;
 
 // Reads a moved file again, and prints the answer, whether it is the file that was moved, and its table.
 fn read_again(file: &[u8], moved: &[u8]) {
     let read = reading::read(moved);
-    let answer = read.answer;
-    let table = read.table;
     cases::text(b"  read again:");
-    tables::show_answer(answer);
+    tables::show_answer(read);
     lists::show_same(file, moved);
-    tables::show(table);
+    tables::show(read.unwrap_or(Table::none()));
 }
 
 // Moves a file into a list and prints the reply and the list; what was written is read again.
 fn move_into(file: &[u8], frames: i32, list: &mut [u8]) {
     let reply = moving::shift(file, frames, list);
-    lists::show_written(reply, list);
+    cases::show_written(reply.number, reply.place, reply.bytes, list);
     let bytes = reply.bytes;
     if bytes == 0 {
         return;

@@ -1,20 +1,19 @@
 // Reading.
 use crate::tables;
-use table::Reading;
+use table::{Refusal, Table};
 
 // The most bytes of a file that is read.
 const MOST: usize = 70_000;
 
-// Prints the answer, and the table, or whether it is 0 throughout where the file is refused.
-fn show(read: Reading) {
-    let answer = read.answer;
-    let table = read.table;
-    tables::show_answer(answer);
-    if answer.number() == 0 {
-        cases::text(b"\n");
-        tables::show(table);
-    } else {
-        tables::show_none(table);
+// Prints the answer, and the table. Where the file is refused there is none, and it is printed whether the table of no task, which C gets, is 0 throughout.
+fn show(read: Result<Table, Refusal>) {
+    tables::show_answer(read);
+    match read {
+        Ok(table) => {
+            cases::text(b"\n");
+            tables::show(table);
+        }
+        Err(_) => tables::show_none(Table::none()),
     }
 }
 

@@ -1,5 +1,5 @@
 // Writing.
-use crate::{lists, tables};
+use crate::tables;
 use base::MAX_TASKS;
 use table::{NO_TASK, Table, Task};
 
@@ -9,25 +9,22 @@ const NUMBERS: usize = 259;
 // The tasks among the numbers of a table.
 fn tasks_of(numbers: [u32; NUMBERS]) -> [Task; MAX_TASKS] {
     let mut tasks = [NO_TASK; MAX_TASKS];
-    let mut i: usize = 0;
-    while i < MAX_TASKS {
-        tasks[i] = Task {
-            release: numbers[4 * i + 3],
-            deadline: numbers[4 * i + 4],
-            mandatory: numbers[4 * i + 5],
-            optional: numbers[4 * i + 6],
+    for k in 0..MAX_TASKS {
+        tasks[k] = Task {
+            release: numbers[4 * k + 3],
+            deadline: numbers[4 * k + 4],
+            mandatory: numbers[4 * k + 5],
+            optional: numbers[4 * k + 6],
         };
-        i += 1;
     }
     tasks
 }
 
-// The table in a file that a field of a line names.
+// The table in a file that a field of a line names; a file that is refused has none, and the table is 0 throughout.
 fn table_in(line: &[u8], field: usize) -> Table {
     let mut file = [0u8; 500];
     let length = cases::file(line, field, &mut file);
-    let read = reading::read(&file[..length]);
-    read.table
+    reading::read(&file[..length]).unwrap_or(Table::none())
 }
 
 // The table of a field, which has its numbers, or names a file that it is in.
@@ -48,17 +45,15 @@ pub fn table_of(line: &[u8], field: usize) -> Table {
 // Reads again what was written, and prints the answer and whether the tables are the same.
 fn read_again(table: Table, file: &[u8]) {
     let read = reading::read(file);
-    let answer = read.answer;
-    let again = read.table;
     cases::text(b"  read again:");
-    tables::show_answer(answer);
-    tables::show_same(table, again);
+    tables::show_answer(read);
+    tables::show_same(table, read.unwrap_or(Table::none()));
 }
 
 // Writes a table into a list and prints the reply and the list; what was written is read again.
 fn write_into(table: Table, list: &mut [u8]) {
     let reply = writing::write(table, list);
-    lists::show_written(reply, list);
+    cases::show_written(reply.number, reply.place, reply.bytes, list);
     let bytes = reply.bytes;
     if bytes == 0 {
         return;

@@ -8,6 +8,7 @@ use native.Mathlib.Decide.{dec_lt}
 use native.Mathlib.Nat.{pow-le-pow_right}
 use lib.ListN.{length, get_or, get_or-eq_default}
 use borrow.Author.Tests.{le-ltb, le-leb, lt-leb, eq-eqb}
+use Rattle.std.specs.Prelude.{Ok, IsOkAnd}
 use Rattle.base.specs.Members.{All, every_member}
 use Rattle.base.specs.Places.{places}
 use Rattle.base.proofs.LowestLaws.{none_passes}
@@ -21,7 +22,7 @@ use Rattle.lines.proofs.SplitLaws.{last_at}
 use Rattle.lines.proofs.LineSplit.{Small, content, content_right, content_numbers, line_cut}
 use Rattle.bits.proofs.RowLaws.{RowFits}
 use Rattle.table.specs.declared.Table.{Table}
-use Rattle.table.specs.declared.Answer.TheVariants.{Accepted}
+use Rattle.table.specs.Answers.{Accepted}
 use Rattle.table.specs.Tables.{task_at, table_of, Same}
 use Rattle.table.specs.Layout.{task_widths, task_start}
 use Rattle.table.specs.Reading.{count_in, p_in, q_in, task_from, task_in, table_in, head_answer, read_answer}
@@ -49,7 +50,6 @@ use Rattle.table_text.specs.TableText.{
   found_in,
   table_in_text,
   wrong_line,
-  right_table,
   parse_reply,
   row_line,
   row_lines,
@@ -57,7 +57,7 @@ use Rattle.table_text.specs.TableText.{
   rows_text,
   text_of_table,
 }
-use Rattle.table_text.specs.WeightedText.{weighted_in_text, wrong_weighted, right_weighted, weighted_parse_reply, weighted_text}
+use Rattle.table_text.specs.WeightedText.{weighted_in_text, weighted_parse_reply, weighted_text}
 use Rattle.table_text.specs.Conversions.{RestoresFile, RestoresWeighted}
 
 -- a line of numbers without its newline
@@ -256,28 +256,28 @@ weighted_narrow : All (λ w. w ≤ 29) weighted_widths
 weighted_narrow = (omega arith, (omega arith, (omega arith, (omega arith, (omega arith, tt)))))
 
 -- A legal table, printed and parsed again.
-pub text_again : (t : Table) → Legal t → parse_reply (text_of_table t) ≡ right_table (table_of t.count t.p t.q (task_at t))
+pub text_again : (t : Table) → Legal t → parse_reply (text_of_table t) ≡ Ok (table_of t.count t.p t.q (task_at t))
 unfolding parse_reply text_of_table table_in_text
 text_again t l =
-    value-parsed tables task_narrow t (record { counted = l.counted; timed = l.timed; narrow = l.narrow; ruled = l.windows }) wrong_line right_table
+    value-parsed tables task_narrow t (record { counted = l.counted; timed = l.timed; narrow = l.narrow; ruled = l.windows }) wrong_line Ok
 
 -- So it is the same table.
-pub text_same : (t : Table) → Legal t → Same (parse_reply (text_of_table t)).table t
+pub text_same : (t : Table) → Legal t → IsOkAnd (parse_reply (text_of_table t)) (λ r. Same r t)
 text_same t l = rw (text_again t l) (table_of-tasks t (legal_count l).1)
 
 -- The table of a file that is read without refusal, printed and parsed again, is that table.
-pub file_text_lem : (s : List ℕ) → read_answer s ≡ Accepted → parse_reply (text_of_table (table_in s)) ≡ right_table (table_in s)
+pub file_text_lem : (s : List ℕ) → read_answer s ≡ Accepted → parse_reply (text_of_table (table_in s)) ≡ Ok (table_in s)
 unfolding parse_reply text_of_table table_in_text read_answer head_answer table_in task_in task_from task_start
-file_text_lem s e = read-parsed tables task_narrow s e wrong_line right_table
+file_text_lem s e = read-parsed tables task_narrow s e wrong_line Ok
 
 -- Its file is the file that was read, byte for byte.
 pub file_text_again : (s : List ℕ) → Bytes s → read_answer s ≡ Accepted → RestoresFile s (text_of_table (table_in s))
 file_text_again s b e = record { table_is = file_text_lem s e; file_is = rw (file_text_lem s e) (read_again s b e) }
 
 -- The weighted table of a file that is read without refusal, printed and parsed again, is that weighted table,
-pub weighted_text_lem : (s : List ℕ) → weighted_answer s ≡ Accepted → weighted_parse_reply (weighted_text (weighted_in s)) ≡ right_weighted (weighted_in s)
+pub weighted_text_lem : (s : List ℕ) → weighted_answer s ≡ Accepted → weighted_parse_reply (weighted_text (weighted_in s)) ≡ Ok (weighted_in s)
 unfolding weighted_parse_reply weighted_text weighted_in_text weighted_answer weighted_in
-weighted_text_lem s e = read-parsed weighted weighted_narrow s e wrong_weighted right_weighted
+weighted_text_lem s e = read-parsed weighted weighted_narrow s e wrong_line Ok
 
 -- and its file is the file that was read, byte for byte.
 pub weighted_text_again : (s : List ℕ) → Bytes s → weighted_answer s ≡ Accepted → RestoresWeighted s (weighted_text (weighted_in s))

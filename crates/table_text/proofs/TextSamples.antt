@@ -18,7 +18,7 @@ use Rattle.lines.specs.Ascii.{ascii, text_of}
 use Rattle.lines.specs.Text.{decimal_within, decimal, fields, line}
 use Rattle.lines.specs.Splitting.{is_blank, is_digit, with_first, cut_at, nonempty, lines_of, words_of, value_after, value_of, is_number, numbers_of}
 use Rattle.table_text.specs.TableText.{line_at, numbers_at, count_in_text, p_in_text, q_in_text, due, line_wrong, lines_checked, right_lines, table_in_text, parse_reply, row_line, row_lines, head_line, rows_text, text_of_table, max_table_text, about_task, refused_line}
-use Rattle.table_text.specs.Conversions.{shown_reply, shown_over, text_reply, text_over, file_reply, file_over}
+use Rattle.table_text.specs.Conversions.{shown_reply, shown_over, text_reply, text_over, made_reply, made_over, file_reply, file_over}
 use Rattle.table.specs.TableSamples.{p8_table}
 use Rattle.table_text.specs.TextSamples.{TextSample, text_samples, FileSample, file_samples, ShownSample, shown_samples, RefusedLineSample, refused_line_samples, p8_text}
 
@@ -35,7 +35,7 @@ sample_printed = refl
 -- The replies of making a file from a text, and what the list holds then.
 pub samples_filed : (map (λ (s : FileSample). file_reply s.text (length s.out)) file_samples ≡ map (λ (s : FileSample). s.reply) file_samples)
     × (map (λ (s : FileSample). file_over s.text s.out) file_samples ≡ map (λ (s : FileSample). s.after) file_samples)
-unfolding file_samples text_of ascii file_reply file_over written_over write_reply rows_reply first_too_wide too_wide file_of rows_file head_bits table_windows_answer windows_answer kind_answer bad_window_answer of_neither_kind pairwise fails_earlier similar no_later nested contains bad_window bad_count file_length content_after parse_reply table_in_text right_lines lines_checked line_wrong due q_in_text p_in_text count_in_text numbers_at line_at numbers_of every_member is_number value_of value_after words_of lines_of nonempty cut_at with_first is_digit is_blank table_of task_at no_table rows_bits row_bits pack bytes_from bytes_for bit_in bits_of number some_below places places_from lowest lowest_from
+unfolding file_samples text_of ascii file_reply file_over made_reply made_over written_over write_reply rows_reply first_too_wide too_wide file_of rows_file head_bits table_windows_answer windows_answer kind_answer bad_window_answer of_neither_kind pairwise fails_earlier similar no_later nested contains bad_window bad_count file_length content_after parse_reply table_in_text right_lines lines_checked line_wrong due q_in_text p_in_text count_in_text numbers_at line_at numbers_of every_member is_number value_of value_after words_of lines_of nonempty cut_at with_first is_digit is_blank table_of task_at no_table rows_bits row_bits pack bytes_from bytes_for bit_in bits_of number some_below places places_from lowest lowest_from
 samples_filed = (refl, refl)
 
 -- The replies of making a text from a file, and what the list holds then.

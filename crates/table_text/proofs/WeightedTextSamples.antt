@@ -20,7 +20,7 @@ use Rattle.lines.specs.Text.{decimal_within, decimal, fields, line}
 use Rattle.lines.specs.Splitting.{is_blank, is_digit, with_first, cut_at, nonempty, lines_of, words_of, value_after, value_of, is_number, numbers_of}
 use Rattle.table_text.specs.TableText.{line_at, numbers_at, count_in_text, p_in_text, q_in_text, due, line_wrong, lines_checked, right_lines, row_line, row_lines, head_line, rows_text}
 use Rattle.table_text.specs.WeightedText.{weighted_in_text, weighted_parse_reply, weighted_text, max_weighted_text}
-use Rattle.table_text.specs.Conversions.{shown_reply, shown_over, weighted_text_reply, weighted_text_over, weighted_file_reply, weighted_file_over}
+use Rattle.table_text.specs.Conversions.{shown_reply, shown_over, weighted_text_reply, weighted_text_over, made_reply, made_over, weighted_file_reply, weighted_file_over}
 use Rattle.table_text.specs.TextSamples.{FileSample, ShownSample}
 use Rattle.table_text.specs.WeightedTextSamples.{WeightedSample, weighted_samples, weighted_file_samples, weighted_shown_samples}
 
@@ -32,7 +32,7 @@ samples_parsed = refl
 -- The replies of making a file from a text, and what the list holds then.
 pub samples_filed : (map (λ (s : FileSample). weighted_file_reply s.text (length s.out)) weighted_file_samples ≡ map (λ (s : FileSample). s.reply) weighted_file_samples)
     × (map (λ (s : FileSample). weighted_file_over s.text s.out) weighted_file_samples ≡ map (λ (s : FileSample). s.after) weighted_file_samples)
-unfolding weighted_file_samples text_of ascii weighted_file_reply weighted_file_over weighted_written_over weighted_write_reply rows_reply first_too_wide too_wide weighted_rules weight_answer weight_at bad_weight file_of_weighted rows_file head_bits nested_answer nesting_answer bad_window_answer fails_earlier nested contains bad_window bad_count weighted_length content_after weighted_parse_reply weighted_in_text right_lines lines_checked line_wrong due q_in_text p_in_text count_in_text numbers_at line_at numbers_of every_member is_number value_of value_after words_of lines_of nonempty cut_at with_first is_digit is_blank weighted_of no_weighted table_of task_at no_table rows_bits row_bits pack bytes_from bytes_for bit_in bits_of number some_below places places_from lowest lowest_from
+unfolding weighted_file_samples text_of ascii weighted_file_reply weighted_file_over made_reply made_over weighted_written_over weighted_write_reply rows_reply first_too_wide too_wide weighted_rules weight_answer weight_at bad_weight file_of_weighted rows_file head_bits nested_answer nesting_answer bad_window_answer fails_earlier nested contains bad_window bad_count weighted_length content_after weighted_parse_reply weighted_in_text right_lines lines_checked line_wrong due q_in_text p_in_text count_in_text numbers_at line_at numbers_of every_member is_number value_of value_after words_of lines_of nonempty cut_at with_first is_digit is_blank weighted_of no_weighted table_of task_at no_table rows_bits row_bits pack bytes_from bytes_for bit_in bits_of number some_below places places_from lowest lowest_from
 samples_filed = (refl, refl)
 
 -- The replies of making a text from a file, and what the list holds then.

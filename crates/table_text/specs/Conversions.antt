@@ -1,16 +1,16 @@
 -- Table files and lines of text, one made from the other: what is replied, and what the lent list holds afterwards. Of plain tables, and of weighted ones.
-use Rattle.std.specs.Prelude.{ℕ, ◌≡◌, List, ltb, eqb, length, take}
+use Rattle.std.specs.Prelude.{ℕ, ◌≡◌, List, ltb, length, take, IsOkAnd}
+use Rattle.std.specs.Prelude.{Result, Ok, Err}
 use Rattle.base.specs.Tests.{pick}
 use Rattle.base.specs.Lent.{content_after}
-use Rattle.table.specs.declared.Answer.{Answer}
+use Rattle.table.specs.Answers.{Answer, number_of, place_of, is_accepted, declined, wrote}
 use Rattle.table.specs.declared.Written.{Written}
-use Rattle.table.specs.Answers.{number_of, place_of, is_accepted, declined, wrote}
 use Rattle.table.specs.Reading.{table_in, read_answer}
 use Rattle.table.specs.Writing.{file_of, write_reply, written_over}
 use Rattle.weighted_file.specs.Weights.{weighted_in, weighted_answer, file_of_weighted, weighted_write_reply, weighted_written_over}
-use Rattle.table_text.specs.declared.FromText.{FromText}
-use Rattle.table_text.specs.TableText.{parse_reply, right_table, text_of_table, max_table_text}
-use Rattle.table_text.specs.WeightedText.{weighted_parse_reply, right_weighted, weighted_text, max_weighted_text}
+use Rattle.table_text.specs.declared.WrongLine.{WrongLine}
+use Rattle.table_text.specs.TableText.{parse_reply, text_of_table, max_table_text}
+use Rattle.table_text.specs.WeightedText.{weighted_parse_reply, weighted_text, max_weighted_text}
 
 -- From a file to the text of its table.
 
@@ -40,13 +40,13 @@ weighted_text_over file out = shown_over max_weighted_text (weighted_answer file
 
 -- a text restores a file: it is parsed as the file's table, and the file of what is parsed is the file
 pub record RestoresFile (file text : List ℕ) : Type 0 where
-  pub table_is : parse_reply text ≡ right_table (table_in file)
-  pub file_is : file_of (parse_reply text).table ≡ file
+  pub table_is : parse_reply text ≡ Ok (table_in file)
+  pub file_is : IsOkAnd (parse_reply text) (λ t. file_of t ≡ file)
 
 -- the same of a weighted file
 pub record RestoresWeighted (file text : List ℕ) : Type 0 where
-  pub weighted_is : weighted_parse_reply text ≡ right_weighted (weighted_in file)
-  pub file_is : file_of_weighted (weighted_parse_reply text).weighted ≡ file
+  pub weighted_is : weighted_parse_reply text ≡ Ok (weighted_in file)
+  pub file_is : IsOkAnd (weighted_parse_reply text) (λ w. file_of_weighted w ≡ file)
 
 -- every text that is shown restores its file, in the sense of its form
 abbrev pub TextRestores : (List ℕ → List ℕ → Type 0) → List ℕ → Written → List ℕ → Type 0
@@ -72,26 +72,26 @@ pub record ShowsWeighted (input old : List ℕ) (reply : Written) (new : List �
 
 -- From a text to the file of its table.
 
--- the reply, by the first wrong line, how many numbers are due there, and what writing the table replies: the wrong line; where no line is wrong, writing's
--- reply. Parts that are not named are 0.
-abbrev pub made_reply : ℕ → ℕ → Written → FromText
-made_reply line due written = record { line = line; due = due; written = pick (eqb line 0) written (wrote 0) }
+-- the reply, by what is found in the text and by what writing replies of a table: the wrong line, or writing's reply
+unfoldable pub made_reply : {A : Type 0} → (A → Written) → Result A WrongLine → Result Written WrongLine
+made_reply write (Ok found) = Ok (write found)
+made_reply write (Err wrong) = Err wrong
 
--- what the list holds then, by what writing the table leaves in it: a wrong line and a refusal leave it as it was
-abbrev pub made_over : ℕ → List ℕ → List ℕ → List ℕ
-made_over line written out = pick (eqb line 0) written out
+-- what the list holds then, by what writing a table leaves in it: a wrong line and a refusal leave it as it was
+unfoldable pub made_over : {A : Type 0} → (A → List ℕ) → Result A WrongLine → List ℕ → List ℕ
+made_over written (Ok found) out = written found
+made_over written (Err wrong) out = out
 
 -- of the text of a plain table
-unfoldable pub file_reply : List ℕ → ℕ → FromText
-file_reply text room = made_reply (parse_reply text).line (parse_reply text).due (write_reply (parse_reply text).table room)
+unfoldable pub file_reply : List ℕ → ℕ → Result Written WrongLine
+file_reply text room = made_reply (λ t. write_reply t room) (parse_reply text)
 
 unfoldable pub file_over : List ℕ → List ℕ → List ℕ
-file_over text out = made_over (parse_reply text).line (written_over (parse_reply text).table out) out
+file_over text out = made_over (λ t. written_over t out) (parse_reply text) out
 
 -- of the text of a weighted one
-unfoldable pub weighted_file_reply : List ℕ → ℕ → FromText
-weighted_file_reply text room =
-    made_reply (weighted_parse_reply text).line (weighted_parse_reply text).due (weighted_write_reply (weighted_parse_reply text).weighted room)
+unfoldable pub weighted_file_reply : List ℕ → ℕ → Result Written WrongLine
+weighted_file_reply text room = made_reply (λ w. weighted_write_reply w room) (weighted_parse_reply text)
 
 unfoldable pub weighted_file_over : List ℕ → List ℕ → List ℕ
-weighted_file_over text out = made_over (weighted_parse_reply text).line (weighted_written_over (weighted_parse_reply text).weighted out) out
+weighted_file_over text out = made_over (λ w. weighted_written_over w out) (weighted_parse_reply text) out

@@ -4,6 +4,7 @@
 -- with a newline, which the last line may lack. After the last task there may be blank lines.
 -- Tables of other forms have other lines for their tasks, and the rest as here: what is the same for all is said of lines with `width` numbers for a task.
 use Rattle.std.specs.Prelude.{ℕ, suc, ◌+◌, ◌-◌, ◌*◌, Bool, not, List, [], ◌∷◌, ◌++◌, leb, ltb, eqb, length, get_or}
+use Rattle.std.specs.Prelude.{Result, Ok, Err}
 use Rattle.base.specs.Limits.{max_tasks}
 use Rattle.base.specs.Tests.{pick, and, or}
 use Rattle.base.specs.Lowest.{lowest}
@@ -11,8 +12,8 @@ use Rattle.base.specs.Places.{places}
 use Rattle.lines.specs.Text.{newline, decimal, line, max_field}
 use Rattle.lines.specs.Splitting.{lines_of, words_of, all_numbers, numbers_of}
 use Rattle.table.specs.declared.Table.{Table}
-use Rattle.table.specs.Tables.{no_table, table_of, task_at, task_row, task_of}
-use Rattle.table_text.specs.declared.Parsed.{Parsed}
+use Rattle.table.specs.Tables.{table_of, task_at, task_row, task_of}
+use Rattle.table_text.specs.declared.WrongLine.{WrongLine}
 
 -- Reading a text.
 
@@ -72,17 +73,13 @@ task_numbers = 4
 unfoldable pub table_in_text : List ℕ → Table
 table_in_text text = table_of (count_in_text text) (p_in_text text) (q_in_text text) (λ k. task_of (row_in_text text k))
 
--- what is found where a line is wrong: that line, how many numbers are due there, and the table that is 0 throughout
-abbrev pub wrong_line : ℕ → ℕ → Parsed
-wrong_line k d = record { line = k; due = d; table = no_table }
-
--- what is found where none is: the table
-abbrev pub right_table : Table → Parsed
-right_table t = record { line = 0; due = 0; table = t }
+-- what is found where a line is wrong: that line, and how many numbers are due there
+abbrev pub wrong_line : {A : Type 0} → ℕ → ℕ → Result A WrongLine
+wrong_line k d = Err (record { line = k; due = d })
 
 -- what is found in the text of a plain table: its first wrong line, or its table
-unfoldable pub parse_reply : List ℕ → Parsed
-parse_reply text = found_in task_numbers wrong_line (right_table (table_in_text text)) text
+unfoldable pub parse_reply : List ℕ → Result Table WrongLine
+parse_reply text = found_in task_numbers wrong_line (Ok (table_in_text text)) text
 
 -- Printing a table.
 

@@ -1,28 +1,24 @@
 -- Sample texts and what each gives, a sample table and its text, and the replies that follow from them. What is expected is written in plain numbers.
 use Rattle.std.specs.Prelude.{ℕ, List, [], ◌∷◌, ◌++◌, replicate}
+use Rattle.std.specs.Prelude.{Result, Ok, Err}
 use Rattle.lines.specs.Ascii.{ascii, text_of}
 use Rattle.table.specs.declared.Table.{Table}
 use Rattle.table.specs.declared.Written.{Written}
 use Rattle.table.specs.TableSamples.{task, table, p4_table, p4_file, p8_table}
-use Rattle.table_text.specs.declared.Parsed.{Parsed}
-use Rattle.table_text.specs.declared.FromText.{FromText}
+use Rattle.table_text.specs.declared.WrongLine.{WrongLine}
 
 -- a text, and what it gives
 pub record TextSample : Type 0 where
   pub text : List ℕ
-  pub gives : Parsed
+  pub gives : Result Table WrongLine
 
 -- one of them
-abbrev pub sample : List ℕ → Parsed → TextSample
+abbrev pub sample : List ℕ → Result Table WrongLine → TextSample
 sample text gives = record { text = text; gives = gives }
 
--- no line is wrong, and this is the table of the lines
-abbrev pub none_wrong : Table → Parsed
-none_wrong t = record { line = 0; due = 0; table = t }
-
--- a wrong line, and how many numbers are due there; the table is 0 throughout
-abbrev pub wrong_at : ℕ → ℕ → Parsed
-wrong_at line count = record { line = line; due = count; table = table 0 0 [] }
+-- a wrong line, and how many numbers are due there
+abbrev pub wrong_at : {A : Type 0} → ℕ → ℕ → Result A WrongLine
+wrong_at line count = Err (record { line = line; due = count })
 
 -- P4 and P8 as lines of text
 abbrev pub p4_text : List ℕ
@@ -39,12 +35,12 @@ cut_text = text_of ("3 1 1" ∷ "0 10 2 3" ∷ "2 8 1 3" ∷ "4 6" ∷ [])
 unfoldable pub text_samples : List TextSample
 text_samples =
     -- P4; and P8, where the last line lacks its newline
-    sample p4_text (none_wrong p4_table)
-    ∷ sample (ascii "3 1 1\n0 10 2 3\n2 8 1 3\n4 6 1 1") (none_wrong p8_table)
+    sample p4_text (Ok p4_table)
+    ∷ sample (ascii "3 1 1\n0 10 2 3\n2 8 1 3\n4 6 1 1") (Ok p8_table)
     -- P4 with tabs, spaces and carriage returns, and blank lines at the end
-    ∷ sample (text_of (" 1\t100  1\r" ∷ "0 2 100 50 \r" ∷ "" ∷ " " ∷ [])) (none_wrong p4_table)
+    ∷ sample (text_of (" 1\t100  1\r" ∷ "0 2 100 50 \r" ∷ "" ∷ " " ∷ [])) (Ok p4_table)
     -- zeros in front, and the greatest number that a word may mean
-    ∷ sample (text_of ("01 100 1" ∷ "0 2 00100 999999999" ∷ [])) (none_wrong (table 100 1 (task 0 2 100 999_999_999 ∷ [])))
+    ∷ sample (text_of ("01 100 1" ∷ "0 2 00100 999999999" ∷ [])) (Ok (table 100 1 (task 0 2 100 999_999_999 ∷ [])))
     -- no text: line 1 is missing
     ∷ sample [] (wrong_at 1 3)
     -- line 1 has two numbers, and four
@@ -70,18 +66,15 @@ text_samples =
 pub record FileSample : Type 0 where
   pub text : List ℕ
   pub out : List ℕ
-  pub reply : FromText
+  pub reply : Result Written WrongLine
   pub after : List ℕ
 
--- the replies: a wrong line, where the part of writing is 0 throughout, a refusal of writing, and the bytes written
-abbrev pub line_reply : ℕ → ℕ → FromText
-line_reply line count = record { line = line; due = count; written = record { number = 0; place = 0; bytes = 0 } }
+-- the replies where no line is wrong: a refusal of writing, and the bytes written
+abbrev pub refusal_reply : ℕ → ℕ → Result Written WrongLine
+refusal_reply number place = Ok (record { number = number; place = place; bytes = 0 })
 
-abbrev pub refusal_reply : ℕ → ℕ → FromText
-refusal_reply number place = record { line = 0; due = 0; written = record { number = number; place = place; bytes = 0 } }
-
-abbrev pub bytes_reply : ℕ → FromText
-bytes_reply bytes = record { line = 0; due = 0; written = record { number = 0; place = 0; bytes = bytes } }
+abbrev pub bytes_reply : ℕ → Result Written WrongLine
+bytes_reply bytes = Ok (record { number = 0; place = 0; bytes = bytes })
 
 -- a list of so many places, each 255
 abbrev pub full : ℕ → List ℕ
@@ -96,9 +89,9 @@ file_samples =
     ∷ record { text = p4_text; out = full 12; reply = bytes_reply 12; after = p4_file }
     ∷ record { text = p4_text; out = full 11; reply = refusal_reply 9 0; after = full 11 }
     -- a wrong line, before writing is asked: the first, a task's, one after the last task
-    ∷ record { text = []; out = full 14; reply = line_reply 1 3; after = full 14 }
-    ∷ record { text = cut_text; out = full 28; reply = line_reply 4 4; after = full 28 }
-    ∷ record { text = text_of ("1 100 1" ∷ "0 2 100 50" ∷ "0 2 100 50" ∷ []); out = full 14; reply = line_reply 3 0; after = full 14 }
+    ∷ record { text = []; out = full 14; reply = wrong_at 1 3; after = full 14 }
+    ∷ record { text = cut_text; out = full 28; reply = wrong_at 4 4; after = full 28 }
+    ∷ record { text = text_of ("1 100 1" ∷ "0 2 100 50" ∷ "0 2 100 50" ∷ []); out = full 14; reply = wrong_at 3 0; after = full 14 }
     -- what writing refuses, with its place: p below q, a bad window
     ∷ record { text = text_of ("1 1 100" ∷ "0 2 100 50" ∷ []); out = full 14; reply = refusal_reply 5 0; after = full 14 }
     ∷ record { text = text_of ("2 1 1" ∷ "0 9 1 1" ∷ "3 3 1 1" ∷ []); out = full 20; reply = refusal_reply 6 1; after = full 20 }

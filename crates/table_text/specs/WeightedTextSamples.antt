@@ -1,19 +1,16 @@
 -- Sample texts of weighted tables and what each gives, and the replies that follow from them. What is expected is written in plain numbers.
 use Rattle.std.specs.Prelude.{ℕ, List, [], ◌∷◌, ◌++◌, replicate}
+use Rattle.std.specs.Prelude.{Result, Ok}
 use Rattle.lines.specs.Ascii.{text_of}
 use Rattle.table.specs.TableSamples.{task, table, p4_file, p8_table}
 use Rattle.weighted_file.specs.declared.Weighted.{Weighted}
-use Rattle.table_text.specs.declared.WeightedParsed.{WeightedParsed}
-use Rattle.table_text.specs.TextSamples.{FileSample, line_reply, refusal_reply, bytes_reply, ShownSample, full}
+use Rattle.table_text.specs.declared.WrongLine.{WrongLine}
+use Rattle.table_text.specs.TextSamples.{FileSample, wrong_at, refusal_reply, bytes_reply, ShownSample, full}
 
 -- a text, and what it gives
 pub record WeightedSample : Type 0 where
   pub text : List ℕ
-  pub gives : WeightedParsed
-
--- a wrong line, and how many numbers are due there; the weighted table is 0 throughout
-abbrev pub wrong_at : ℕ → ℕ → WeightedParsed
-wrong_at line count = record { line = line; due = count; weighted = record { table = table 0 0 []; weights = replicate 64 0 } }
+  pub gives : Result Weighted WrongLine
 
 -- P8 with the weights 1, 15 and 7: the weighted table, its text, its file
 abbrev pub p8_weighted : Weighted
@@ -28,16 +25,12 @@ p8_file = 6 ∷ 0 ∷ 32 ∷ 2 ∷ 0 ∷ 0 ∷ 0 ∷ 5 ∷ 0 ∷ 4 ∷ 0 ∷ 24 
 -- texts that are right, and texts with a wrong line
 unfoldable pub weighted_samples : List WeightedSample
 weighted_samples =
-    record { text = p8_text; gives = record { line = 0; due = 0; weighted = p8_weighted } }
+    record { text = p8_text; gives = Ok p8_weighted }
     -- a weight of 0 and one above 15 stand on lines that are right: writing refuses them
     ∷ record {
       text = text_of ("2 1 1" ∷ "0 10 2 3 0" ∷ "2 8 1 3 16" ∷ []);
       gives =
-          record {
-            line = 0;
-            due = 0;
-            weighted = record { table = table 1 1 (task 0 10 2 3 ∷ task 2 8 1 3 ∷ []); weights = 0 ∷ 16 ∷ replicate 62 0 };
-          };
+          Ok (record { table = table 1 1 (task 0 10 2 3 ∷ task 2 8 1 3 ∷ []); weights = 0 ∷ 16 ∷ replicate 62 0 });
     }
     -- a line as plain tables have it, one with six numbers, one with a weight that is no number
     ∷ record { text = text_of ("1 100 1" ∷ "0 2 100 50" ∷ []); gives = wrong_at 2 5 }
@@ -54,7 +47,7 @@ weighted_file_samples =
     record { text = p8_text; out = full 30; reply = bytes_reply 29; after = p8_file ++ full 1 }
     ∷ record { text = p8_text; out = full 28; reply = refusal_reply 9 0; after = full 28 }
     -- a line as plain tables have it
-    ∷ record { text = text_of ("1 100 1" ∷ "0 2 100 50" ∷ []); out = full 14; reply = line_reply 2 5; after = full 14 }
+    ∷ record { text = text_of ("1 100 1" ∷ "0 2 100 50" ∷ []); out = full 14; reply = wrong_at 2 5; after = full 14 }
     -- a weight above 15; a weight of 0 before windows that do not nest, and after a field too wide
     ∷ record { text = text_of ("2 1 1" ∷ "0 9 1 1 15" ∷ "3 5 1 1 16" ∷ []); out = full 30; reply = refusal_reply 16 1; after = full 30 }
     ∷ record { text = text_of ("2 1 1" ∷ "0 5 1 1 1" ∷ "3 9 1 1 0" ∷ []); out = full 30; reply = refusal_reply 16 1; after = full 30 }

@@ -1,3 +1,3 @@
-pub mod ScanSteps
 pub mod LineScan
+pub mod ScanSteps
 pub mod ScanLaws

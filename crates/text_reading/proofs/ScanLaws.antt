@@ -8,7 +8,8 @@ use native.Mathlib.Decide.{dec_lt}
 use native.Mathlib.Numerals.{add-one}
 use lib.Dec.{leb, ltb, eqb}
 use lib.ListN.{length, get_or, set, length-append, get_or-eq_default}
-use borrow.Author.Tests.{leb-true, leb-false, ltb-true, le-leb, lt-leb, lt-ltb, le-ltb, eqb-true, ne_eqb, not-false}
+use borrow.Author.Tests.{leb-true, leb-false, ltb-true, le-leb, lt-leb, lt-ltb, le-ltb, eqb-true, not-false}
+use Rattle.std.specs.Prelude.{Result, Ok, Err}
 use Rattle.base.specs.Limits.{max_tasks}
 use Rattle.base.specs.Tests.{pick, and, or}
 use Rattle.base.specs.Lowest.{lowest_from, lowest}
@@ -21,12 +22,12 @@ use Rattle.base.specs.Members.{every_member}
 use Rattle.lines.specs.Text.{newline}
 use Rattle.lines.specs.Splitting.{cut_at, nonempty, lines_of, words_of, all_numbers, numbers_of}
 use Rattle.lines.proofs.SplitLaws.{is_newline, Plain, cut_plain, last_at, cut_over}
+use Rattle.table.specs.declared.Table.{Table}
 use Rattle.table.specs.declared.Task.{Task}
 use Rattle.table.specs.Tables.{no_task, no_table, table_of, task_of}
 use Rattle.weighted_file.specs.declared.Weighted.{Weighted}
 use Rattle.weighted_file.specs.Weights.{weighted_of, no_weighted}
-use Rattle.table_text.specs.declared.Parsed.{Parsed}
-use Rattle.table_text.specs.declared.WeightedParsed.{WeightedParsed}
+use Rattle.table_text.specs.declared.WrongLine.{WrongLine}
 use Rattle.table_text.specs.TableText.{
   line_at,
   numbers_at,
@@ -39,56 +40,52 @@ use Rattle.table_text.specs.TableText.{
   line_wrong,
   lines_checked,
   right_lines,
+  wrong_line,
   task_numbers,
   table_in_text,
   parse_reply,
 }
-use Rattle.table_text.specs.WeightedText.{weighted_in_text, wrong_weighted, right_weighted}
+use Rattle.table_text.specs.WeightedText.{weighted_in_text}
 use Rattle.text_reading.specs.declared.Line.{Line}
 use Rattle.text_reading.specs.declared.Scan.{Scan}
-use Rattle.text_reading.specs.Scanning.{line_numbers, no_line, with_byte, with_line, ends_wrong, end_line, step, start, found, scan_reply, scanned}
+use Rattle.text_reading.specs.Scanning.{line_numbers, no_line, with_byte, with_line, ends_wrong, end_line, step, stepped, start, found, scan_reply, scanned}
 use Rattle.text_reading.proofs.LineScan.{ended, line_wrong_lem, line_numbers_lem}
+use Rattle.text_reading.proofs.ScanSteps.{stays}
 
 -- a scan that has met no wrong line
-abbrev reading : ℕ → Weighted → Line → Scan
-reading k w l = record { line = k; wrong = 0; weighted = w; current = l }
+abbrev reading : ℕ → Weighted → Line → Result Scan WrongLine
+reading k w l = Ok (record { line = k; weighted = w; current = l })
 
 -- Of texts with `width` numbers on the line of a task, as many as a line has room for.
 module _ (width : ℕ) (fits : width ≤ line_numbers) (some : 0 < width) where
   -- a scan over a line, and its end
-  abbrev overLine : Scan → List ℕ → Scan
-  overLine s line = step width (foldl (step width) s line) newline
+  abbrev overLine : Result Scan WrongLine → List ℕ → Result Scan WrongLine
+  overLine s line = stepped width (foldl (stepped width) s line) newline
 
   -- over a line that has no newline, the line being read goes on
   line-over : (k : ℕ) (w : Weighted) (l : Line) (line : List ℕ) → Plain is_newline line
-      → foldl (step width) (reading k w l) line ≡ reading k w (foldl with_byte l line)
-  unfolding step
+      → foldl (stepped width) (reading k w l) line ≡ reading k w (foldl with_byte l line)
+  unfolding stepped step
   line-over k w l [] plain = refl
   line-over k w l (byte ∷ line) plain = rw plain.0 (line-over k w (with_byte l byte) line plain.1)
 
   -- A line that is wrong is noted,
   over-wrong : (k : ℕ) (w : Weighted) (line : List ℕ) → Plain is_newline line → ends_wrong width k w.table.count (ended line) ≡ true
-      → overLine (reading k w no_line) line ≡ record { line = k; wrong = k; weighted = w; current = foldl with_byte no_line line }
-  unfolding step end_line
+      → overLine (reading k w no_line) line ≡ wrong_line k (due width k w.table.count)
+  unfolding stepped step end_line
   over-wrong k w line plain e = rw (line-over k w no_line line plain, e)
 
   -- and the numbers of another go into the weighted table.
   over-right : (k : ℕ) (w : Weighted) (line : List ℕ) → Plain is_newline line → ends_wrong width k w.table.count (ended line) ≡ false
       → overLine (reading k w no_line) line ≡ reading (k + 1) (with_line w k (ended line).numbers) no_line
-  unfolding step end_line
+  unfolding stepped step end_line
   over-right k w line plain e = rw (line-over k w no_line line plain, e)
 
-  -- After a wrong line nothing more is read, over a line
-  stays-over : (s : Scan) (line : List ℕ) → (s.wrong ≡ 0 → ⊥) → foldl (step width) s line ≡ s
-  unfolding step
-  stays-over s [] n = refl
-  stays-over s (byte ∷ line) n = rw (ne_eqb s.wrong 0 n) (stays-over s line n)
-
-  -- and over lines.
-  stays : (s : Scan) (lines : List (List ℕ)) → (s.wrong ≡ 0 → ⊥) → foldl overLine s lines ≡ s
-  unfolding step
-  stays s [] n = refl
-  stays s (line ∷ lines) n = rw (stays-over s line n, ne_eqb s.wrong 0 n) (stays s lines n)
+  -- After a wrong line no further line is read.
+  stays-over : (wrong : WrongLine) (lines : List (List ℕ)) → foldl overLine (Err wrong) lines ≡ Err wrong
+  unfolding stepped
+  stays-over wrong [] = refl
+  stays-over wrong (line ∷ lines) = rw (stays width wrong line) (stays-over wrong lines)
 
   -- where nothing is due on a line, the lines before it have all tasks
   due-none : (k count : ℕ) → 0 ≡ due width k count → count + 1 < k
@@ -232,22 +229,22 @@ module _ (width : ℕ) (fits : width ≤ line_numbers) (some : 0 < width) where
 
     -- The scan from line i + 1 on finds the first wrong line from there on, or the weighted table.
     lines-found : (c i : ℕ) (w : Weighted) → i + c ≡ lines_checked text → Begun i w
-        → found width (foldl overLine (reading (suc i) w no_line) (places_from line_here i c))
+        → found (foldl overLine (reading (suc i) w no_line) (places_from line_here i c))
         ≡ pick (ltb (lowest_from wrongHere i c) (lines_checked text))
-        (wrong_weighted (suc (lowest_from wrongHere i c)) (due width (suc (lowest_from wrongHere i c)) (count_in_text text))) (right_weighted (weighted_in_text text))
+        (wrong_line (suc (lowest_from wrongHere i c)) (due width (suc (lowest_from wrongHere i c)) (count_in_text text))) (Ok (weighted_in_text text))
     unfolding lowest_from places_from found
     lines-found zero i w e b =
         let all : i ≡ lines_checked text = omega arith in
-        rw (le-ltb i (lines_checked text) (omega arith)) (ap right_weighted (table-read w (rw all at b)))
+        rw (le-ltb i (lines_checked text) (omega arith)) (ap Ok (table-read w (rw all at b)))
     lines-found (suc c) i w e b =
         let rest = places_from line_here (suc i) c in
         cases (wrongHere i)
         (λ bad.
-        ap (λ (s : Scan). found width (foldl overLine s rest)) (over-wrong (suc i) w (line_here i) (plain_here i) (ends-here i w b ∙ bad))
-        ∙ (ap (found width) (stays (record { line = suc i; wrong = suc i; weighted = w; current = foldl with_byte no_line (line_here i) }) rest (λ z. omega arith))
-        ∙ rw (bad, lt-ltb i (lines_checked text) (omega arith), due-here i w b, ne_eqb (suc i) 0 (λ z. omega arith))))
+        ap (λ (s : Result Scan WrongLine). found (foldl overLine s rest)) (over-wrong (suc i) w (line_here i) (plain_here i) (ends-here i w b ∙ bad))
+        ∙ (ap found (stays-over (record { line = suc i; due = due width (suc i) w.table.count }) rest)
+        ∙ rw (bad, lt-ltb i (lines_checked text) (omega arith), due-here i w b)))
         (λ good.
-        ap (λ (s : Scan). found width (foldl overLine s rest)) (over-right (suc i) w (line_here i) (plain_here i) (ends-here i w b ∙ good))
+        ap (λ (s : Result Scan WrongLine). found (foldl overLine s rest)) (over-right (suc i) w (line_here i) (plain_here i) (ends-here i w b ∙ good))
         ∙ rw (good, add-one (suc i))
         (lines-found c (suc i) (with_line w (suc i) (ended (line_here i)).numbers) (omega arith) (begun-next i w (ended (line_here i)).numbers b good (numbers-here i good))))
 
@@ -259,25 +256,25 @@ module _ (width : ℕ) (fits : width ≤ line_numbers) (some : 0 < width) where
         (λ k l. let e : suc k - 1 ≡ k = omega arith in rw e (last_at [] (lines_of text) k))
 
   -- a newline ends a line
-  newline-ends : (s : Scan) (byte : ℕ) → is_newline byte ≡ true → step width s byte ≡ step width s newline
+  newline-ends : (s : Result Scan WrongLine) (byte : ℕ) → is_newline byte ≡ true → stepped width s byte ≡ stepped width s newline
   newline-ends s byte e = rw (eqb-true byte newline e)
 
   -- The scan of a text finds what the definition says.
   pub scan_parsed : (text : List ℕ) → scan_reply width text ≡ scanned width text
   unfolding scan_reply scanned right_lines lowest start lines_of places
   scan_parsed text =
-      let over : step width (step width (foldl (step width) start text) newline) newline ≡ foldl overLine start (lines_of text ++ [] ∷ []) =
-      rw (cut_over (step width) (λ s. step width s newline) is_newline newline-ends start text)
-      (sym (foldl-append overLine start (lines_of text) ([] ∷ []))) in
+      let over : stepped width (stepped width (foldl (stepped width) (Ok start) text) newline) newline ≡ foldl overLine (Ok start) (lines_of text ++ [] ∷ []) =
+      rw (cut_over (stepped width) (λ s. stepped width s newline) is_newline newline-ends (Ok start) text)
+      (sym (foldl-append overLine (Ok start) (lines_of text) ([] ∷ []))) in
       rw (over, lines-looked text) (lines-found text (lines_checked text) 0 no_weighted (omega arith) (begun-start text))
 
 -- what a plain text gives of what is found
-abbrev plain_of : WeightedParsed → Parsed
-plain_of r = record { line = r.line; due = r.due; table = r.weighted.table }
+unfoldable pub plain_of : Result Weighted WrongLine → Result Table WrongLine
+plain_of (Ok w) = Ok w.table
+plain_of (Err wrong) = Err wrong
 
 -- A plain text is scanned for its table.
-pub plain_scanned : (text : List ℕ) (r : WeightedParsed) → r ≡ scanned task_numbers text
-    → record { line = r.line; due = r.due; table = r.weighted.table } ≡ parse_reply text
-unfolding scanned parse_reply table_in_text weighted_in_text weighted_of no_weighted
-plain_scanned text r e =
-    ap plain_of e ∙ cases (ltb (right_lines task_numbers text) (lines_checked text)) (λ a. rw a) (λ a. rw a)
+pub plain_scanned : (text : List ℕ) → plain_of (scanned task_numbers text) ≡ parse_reply text
+unfolding plain_of scanned parse_reply table_in_text weighted_in_text weighted_of no_weighted
+plain_scanned text =
+    cases (ltb (right_lines task_numbers text) (lines_checked text)) (λ a. rw a) (λ a. rw a)

@@ -1,87 +1,80 @@
--- From what the parts of a scan answer to what the definitions say of the whole.
+-- A text that is read byte by byte, up to its first wrong line.
 use Prim.Native.Nat.{ℕ, ◌+◌, ◌≤◌, ◌<◌}
-use mathlib.Core.Path.{◌≡◌, sym, ap, ◌∙◌}
-use mathlib.Core.Bool.{Bool, true, false}
-use mathlib.Core.List.{List, foldl}
+use mathlib.Core.Path.{◌≡◌, refl, ap}
+use mathlib.Core.List.{List, [], ◌∷◌, foldl}
 use native.Mathlib.Omega.{arith}
 use native.Mathlib.Numerals.{add-one}
 use lib.Dec.{eqb}
 use lib.ListN.{length, get_or, drop, drop_of_length-le}
 use lib.Seq.{drop-cons}
-use borrow.Author.Tests.{ne_eqb}
-use Rattle.base.proofs.TestLaws.{pick_true, pick_false, pick_cases}
+use Rattle.std.specs.Prelude.{Result, Ok, Err, IfOk}
+use Rattle.base.proofs.TestLaws.{pick_cases}
 use Rattle.lines.specs.Text.{newline}
-use Rattle.weighted_file.specs.declared.Weighted.{Weighted}
-use Rattle.weighted_file.specs.Weights.{no_weighted}
-use Rattle.table_text.specs.TableText.{due}
-use Rattle.text_reading.specs.declared.Line.{Line}
+use Rattle.table_text.specs.declared.WrongLine.{WrongLine}
 use Rattle.text_reading.specs.declared.Scan.{Scan}
-use Rattle.text_reading.specs.Scanning.{no_line, with_number, with_line, ends_wrong, end_line, step, start, found, scan_reply}
+use Rattle.text_reading.specs.Scanning.{with_number, ends_wrong, end_line, step, stepped, start, found, scan_reply}
 
 -- Of texts with so many numbers on the line of a task.
 module _ (width : ℕ) where
-  module _ (s : Scan) (l : Line) (test : Bool) (ended : l ≡ with_number s.current) (tested : test ≡ ends_wrong width s.line s.weighted.table.count l) where
-    -- a line that is wrong
-    pub line_refused : test ≡ true → record { line = s.line; wrong = s.line; weighted = s.weighted; current = s.current } ≡ end_line width s
-    unfolding end_line
-    line_refused e =
-        sym (pick_true _ _ _ (ap (λ (k : Line). ends_wrong width s.line s.weighted.table.count k) (sym ended) ∙ (sym tested ∙ e)))
-
-    -- a line that is not
-    pub line_taken : (w : Weighted) (n : Line) → w ≡ with_line s.weighted s.line l.numbers → n ≡ no_line → test ≡ false
-        → record { line = s.line + 1; wrong = 0; weighted = w; current = n } ≡ end_line width s
-    unfolding end_line
-    line_taken w n filled none e =
-        rw (filled, none, ended)
-        (sym (pick_false _ _ _ (ap (λ (k : Line). ends_wrong width s.line s.weighted.table.count k) (sym ended) ∙ (sym tested ∙ e))))
-
   -- a byte passes at most one line
-  pub step_line : (s : Scan) (byte : ℕ) → (step width s byte).line ≤ s.line + 1
+  step_line : (s : Scan) (byte : ℕ) → IfOk (step width s byte) (λ r. r.line ≤ s.line + 1)
   unfolding step end_line
   step_line s byte =
-      pick_cases (λ (r : Scan). r.line ≤ s.line + 1) (eqb s.wrong 0)
-      (λ a.
-      pick_cases (λ (r : Scan). r.line ≤ s.line + 1) (eqb byte newline)
-      (λ b.
-      pick_cases (λ (r : Scan). r.line ≤ s.line + 1) (ends_wrong width s.line s.weighted.table.count (with_number s.current)) (λ d. omega arith)
-      (λ d. omega arith))
-      (λ b. omega arith))
-      (λ a. omega arith)
+      let few = λ (r : Result Scan WrongLine). IfOk r (λ x. x.line ≤ s.line + 1) in
+      pick_cases few (eqb byte newline)
+      (λ b. pick_cases few (ends_wrong width s.line s.weighted.table.count (with_number s.current)) (λ d. tt) (λ d. omega arith))
+      (λ b. omega arith)
+
+  pub next_line : (s : Scan) (byte : ℕ) (next : Scan) → Ok next ≡ step width s byte → next.line ≤ s.line + 1
+  next_line s byte next e = rw (← e) at (step_line s byte)
+
+  -- After a wrong line nothing more is read.
+  pub stays : (wrong : WrongLine) (bytes : List ℕ) → foldl (stepped width) (Err wrong) bytes ≡ Err wrong
+  unfolding stepped
+  stays wrong [] = refl
+  stays wrong (byte ∷ bytes) = stays wrong bytes
 
   -- A scan of a text from its first byte on: what is left of it, read from here, gives what the whole text gives.
   pub record Scanned (text : List ℕ) (i : ℕ) (s : Scan) : Type 0 where
-    pub within_is : i ≤ length text
     pub line-is : s.line ≤ i + 1
-    pub left : foldl (step width) s (drop i text) ≡ foldl (step width) start text
+    pub left : foldl (stepped width) (Ok s) (drop i text) ≡ foldl (stepped width) (Ok start) text
 
   pub scan_start : (text : List ℕ) (s : Scan) → s ≡ start → Scanned text 0 s
   unfolding start
-  scan_start text s e = record { within_is = omega arith; line-is = omega (arith, ap (λ (x : Scan). x.line) e); left = rw e }
+  scan_start text s e = record { line-is = omega (arith, ap (λ (x : Scan). x.line) e); left = rw e }
 
-  pub scan_next : (text : List ℕ) (i : ℕ) (s next : Scan) → i < length text → next ≡ step width s (get_or text i 0) → Scanned text i s
-      → Scanned text (i + 1) next
-  scan_next text i s next l e h =
-      record {
-        within_is = omega arith;
-        line-is = omega (arith, step_line s (get_or text i 0), ap (λ (x : Scan). x.line) e);
-        left = rw (e, add-one i) (rw (drop-cons text i 0 l) at h.left);
-      }
+  module _ (text : List ℕ) (i : ℕ) (s : Scan) (within : i < length text) (h : Scanned text i s) where
+    -- the next byte is read, and what is left behind it
+    left_of : foldl (stepped width) (step width s (get_or text i 0)) (drop (i + 1) text) ≡ foldl (stepped width) (Ok start) text
+    unfolding stepped
+    left_of = rw (add-one i) (rw (drop-cons text i 0 within) at h.left)
 
-  pub scan_end : (text : List ℕ) (i : ℕ) (s : Scan) → length text ≤ i → Scanned text i s → s ≡ foldl (step width) start text
-  scan_end text i s l h = rw (drop_of_length-le text l) at h.left
+    pub scan_next : (next : Scan) → Ok next ≡ step width s (get_or text i 0) → Scanned text (i + 1) next
+    scan_next next e =
+        record { line-is = omega (arith, next_line s (get_or text i 0) next e, h.line-is); left = rw e left_of }
 
-  module _ (text : List ℕ) (s ended closed : Scan) (whole : s ≡ foldl (step width) start text) (first : ended ≡ step width s newline) (second : closed ≡ step width ended newline) where
-    -- the scan after the two newlines that follow the text
-    closed_is : closed ≡ step width (step width (foldl (step width) start text) newline) newline
-    closed_is = second ∙ ap (λ (x : Scan). step width x newline) (first ∙ ap (λ (x : Scan). step width x newline) whole)
+    -- it ends a wrong line
+    pub scan_wrong : (wrong : WrongLine) → Err wrong ≡ step width s (get_or text i 0) → Err wrong ≡ scan_reply width text
+    unfolding scan_reply found stepped
+    scan_wrong wrong e = rw (← left_of, ← e, stays wrong (drop (i + 1) text)) refl
 
-    -- a text with a wrong line
-    pub text_refused : (d : ℕ) (w : Weighted) → (closed.wrong ≡ 0 → ⊥) → d ≡ due width closed.wrong closed.weighted.table.count → w ≡ no_weighted
-        → record { line = closed.wrong; due = d; weighted = w } ≡ scan_reply width text
-    unfolding scan_reply found
-    text_refused d w n h e = rw (← closed_is, e, h, ne_eqb closed.wrong 0 n)
+  module _ (text : List ℕ) (i : ℕ) (s : Scan) (whole : length text ≤ i) (h : Scanned text i s) where
+    -- all bytes are read
+    read_all : Ok s ≡ foldl (stepped width) (Ok start) text
+    read_all = rw (drop_of_length-le text whole) at h.left
 
-    -- a text with none
-    pub text-taken : closed.wrong ≡ 0 → record { line = 0; due = 0; weighted = closed.weighted } ≡ scan_reply width text
-    unfolding scan_reply found
-    text-taken e = rw (← closed_is, e)
+    -- the first newline behind the text ends a wrong line,
+    pub first_wrong : (wrong : WrongLine) → Err wrong ≡ step width s newline → Err wrong ≡ scan_reply width text
+    unfolding scan_reply found stepped
+    first_wrong wrong e = rw (← read_all, ← e) refl
+
+    module _ (ended : Scan) (first : Ok ended ≡ step width s newline) where
+      -- or the second does,
+      pub second_wrong : (wrong : WrongLine) → Err wrong ≡ step width ended newline → Err wrong ≡ scan_reply width text
+      unfolding scan_reply found stepped
+      second_wrong wrong e = rw (← read_all, ← first, ← e) refl
+
+      -- or no line is wrong.
+      pub text_taken : (closed : Scan) → Ok closed ≡ step width ended newline → Ok closed.weighted ≡ scan_reply width text
+      unfolding scan_reply found stepped
+      text_taken closed e = rw (← read_all, ← first, ← e) refl

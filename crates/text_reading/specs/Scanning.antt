@@ -1,6 +1,7 @@
 -- For the proofs of text_reading's code alone: a text read byte by byte, with `width` numbers on the line of a task. What is read is a weighted table, of which a
 -- plain text leaves the weights 0.
-use Rattle.std.specs.Prelude.{ℕ, ◌+◌, ◌-◌, ◌*◌, Bool, true, false, not, leb, ltb, eqb, get_or, set, replicate}
+use Rattle.std.specs.Prelude.{ℕ, ◌+◌, ◌-◌, ◌*◌, Bool, true, false, not, leb, ltb, eqb, get_or, set, replicate, Option, Some, None, Result, Ok, Err}
+use Rattle.std.specs.Option.{unwrap_or}
 use mathlib.Core.List.{List, foldl}
 use Rattle.base.specs.Limits.{max_tasks}
 use Rattle.base.specs.Tests.{pick, and, or}
@@ -9,9 +10,9 @@ use Rattle.lines.specs.Splitting.{is_blank, is_digit}
 use Rattle.table.specs.Tables.{task_of}
 use Rattle.weighted_file.specs.declared.Weighted.{Weighted}
 use Rattle.weighted_file.specs.Weights.{no_weighted}
-use Rattle.table_text.specs.declared.WeightedParsed.{WeightedParsed}
-use Rattle.table_text.specs.TableText.{due, found_in}
-use Rattle.table_text.specs.WeightedText.{weighted_in_text, wrong_weighted, right_weighted}
+use Rattle.table_text.specs.declared.WrongLine.{WrongLine}
+use Rattle.table_text.specs.TableText.{due, found_in, wrong_line}
+use Rattle.table_text.specs.WeightedText.{weighted_in_text}
 use Rattle.text_reading.specs.declared.Line.{Line}
 use Rattle.text_reading.specs.declared.Scan.{Scan}
 
@@ -21,26 +22,30 @@ line_numbers = 5
 
 -- a line of which nothing was read
 unfoldable pub no_line : Line
-no_line = record { bad = false; seen = 0; numbers = replicate line_numbers 0; reading = false; value = 0 }
+no_line = record { bad = false; seen = 0; numbers = replicate line_numbers 0; number = None }
 
 -- the line with a fault: it has what no line may have
 unfoldable pub with_fault : Line → Line
-with_fault l = record { bad = true; seen = l.seen; numbers = l.numbers; reading = l.reading; value = l.value }
+with_fault l = record { bad = true; seen = l.seen; numbers = l.numbers; number = l.number }
+
+-- the value so far of the number being read, and 0 where none is
+abbrev pub so_far : Option ℕ → ℕ
+so_far number = unwrap_or number 0
 
 -- a digit more of the number being read; a number above 999,999,999 is a fault
 unfoldable pub with_digit : Line → ℕ → Line
 with_digit l digit =
-    pick (ltb 99_999_999 l.value) (with_fault l)
-    (record { bad = l.bad; seen = l.seen; numbers = l.numbers; reading = true; value = 10 * l.value + digit })
+    pick (ltb 99_999_999 (so_far l.number)) (with_fault l)
+    (record { bad = l.bad; seen = l.seen; numbers = l.numbers; number = Some (10 * so_far l.number + digit) })
 
 -- the number being read, where there is one, is the line's next; one more than a line has room for is a fault
+unfoldable pub number_ended : Line → Option ℕ → Line
+number_ended l None = l
+number_ended l (Some value) =
+    pick (ltb l.seen line_numbers) (record { bad = l.bad; seen = l.seen + 1; numbers = set l.numbers l.seen value; number = None }) (with_fault l)
+
 unfoldable pub with_number : Line → Line
-with_number l =
-    pick l.reading
-    (pick (ltb l.seen line_numbers)
-    (record { bad = l.bad; seen = l.seen + 1; numbers = set l.numbers l.seen l.value; reading = false; value = 0 })
-    (with_fault l))
-    l
+with_number l = number_ended l l.number
 
 -- a byte more of the line, which is no newline: a digit, a blank, or another byte, which is a fault
 unfoldable pub with_byte : Line → ℕ → Line
@@ -67,34 +72,36 @@ unfoldable pub ends_wrong : ℕ → ℕ → ℕ → Line → Bool
 ends_wrong width line count l = or l.bad (not (eqb l.seen (due width line count)))
 
 -- the line being read ends: where it is not wrong, its numbers go into the weighted table
-unfoldable pub end_line : ℕ → Scan → Scan
+unfoldable pub end_line : ℕ → Scan → Result Scan WrongLine
 end_line width s =
     pick (ends_wrong width s.line s.weighted.table.count (with_number s.current))
-    (record { line = s.line; wrong = s.line; weighted = s.weighted; current = s.current })
-    (record { line = s.line + 1; wrong = 0; weighted = with_line s.weighted s.line (with_number s.current).numbers; current = no_line })
+    (wrong_line s.line (due width s.line s.weighted.table.count))
+    (Ok (record { line = s.line + 1; weighted = with_line s.weighted s.line (with_number s.current).numbers; current = no_line }))
 
--- a byte more of the text; after the first wrong line nothing more is read
-unfoldable pub step : ℕ → Scan → ℕ → Scan
+-- a byte more of the text
+unfoldable pub step : ℕ → Scan → ℕ → Result Scan WrongLine
 step width s byte =
-    pick (eqb s.wrong 0)
-    (pick (eqb byte newline) (end_line width s)
-    (record { line = s.line; wrong = 0; weighted = s.weighted; current = with_byte s.current byte }))
-    s
+    pick (eqb byte newline) (end_line width s) (Ok (record { line = s.line; weighted = s.weighted; current = with_byte s.current byte }))
+
+-- after the first wrong line nothing more is read
+unfoldable pub stepped : ℕ → Result Scan WrongLine → ℕ → Result Scan WrongLine
+stepped width (Ok s) byte = step width s byte
+stepped width (Err wrong) byte = Err wrong
 
 -- nothing was read yet: line 1 comes next
 unfoldable pub start : Scan
-start = record { line = 1; wrong = 0; weighted = no_weighted; current = no_line }
+start = record { line = 1; weighted = no_weighted; current = no_line }
 
 -- what is found at the end: the weighted table, or the first wrong line
-unfoldable pub found : ℕ → Scan → WeightedParsed
-found width s =
-    pick (eqb s.wrong 0) (right_weighted s.weighted) (wrong_weighted s.wrong (due width s.wrong s.weighted.table.count))
+unfoldable pub found : Result Scan WrongLine → Result Weighted WrongLine
+found (Ok s) = Ok s.weighted
+found (Err wrong) = Err wrong
 
 -- a text is read as if two newlines followed it: the first ends a line that lacks its newline, and the second makes a blank line, which is
 -- wrong where a line is missing
-unfoldable pub scan_reply : ℕ → List ℕ → WeightedParsed
-scan_reply width text = found width (step width (step width (foldl (step width) start text) newline) newline)
+unfoldable pub scan_reply : ℕ → List ℕ → Result Weighted WrongLine
+scan_reply width text = found (stepped width (stepped width (foldl (stepped width) (Ok start) text) newline) newline)
 
 -- what is to be found in a text
-unfoldable pub scanned : ℕ → List ℕ → WeightedParsed
-scanned width text = found_in width wrong_weighted (right_weighted (weighted_in_text text)) text
+unfoldable pub scanned : ℕ → List ℕ → Result Weighted WrongLine
+scanned width text = found_in width wrong_line (Ok (weighted_in_text text)) text

@@ -17,9 +17,10 @@ mod conversions;
 
 ghost use Rattle.io.specs.Counts.{IsPrefixLen};
 
-use cases::STDIN;
+use base::MAX_TASKS;
 use table::{Table, Task};
-use table_text::{Parsed, WeightedParsed};
+use table_text::WrongLine;
+use weighted_file::Weighted;
 
 // What the byte behind a backslash stands for.
 fn escaped(byte: u8) -> u8 {
@@ -36,22 +37,18 @@ fn escaped(byte: u8) -> u8 {
 fn unescape(line: &[u8], list: &mut [u8]) -> usize
     ensures { IsPrefixLen result list.new }
 {
-    let mut i: usize = 0;
-    let mut count: usize = 0;
-    while count < list.len() {
-        if line.len() - i < 2 {
-            return count;
-        }
-        let mut byte = line[i];
-        if byte == b'\\' {
-            i += 1;
-            byte = escaped(line[i]);
-        }
-        list[count] = byte;
-        i += 1;
-        count += 1;
+    let Some((_, text)) = line.split_last() else {
+        return 0;
+    };
+    let mut bytes = text.iter();
+    for (count, place) in list.iter_mut().enumerate() {
+        *place = match bytes.next() {
+            None => return count,
+            Some(b'\\') => escaped(bytes.next().copied().unwrap_or(b'0')),
+            Some(byte) => *byte,
+        };
     }
-    count
+    list.len()
 }
 
 // Prints a task.
@@ -59,58 +56,61 @@ fn show_task(task: Task) {
     cases::show(
         b", # # # #",
         &[
-            task.release as u64,
-            task.deadline as u64,
-            task.mandatory as u64,
-            task.optional as u64,
+            u64::from(task.release),
+            u64::from(task.deadline),
+            u64::from(task.mandatory),
+            u64::from(task.optional),
         ],
     );
 }
 
-// Prints four of the places of a table.
-fn show_tasks(table: Table) {
-    let tasks = table.tasks;
-    show_task(tasks[0]);
-    show_task(tasks[1]);
-    show_task(tasks[2]);
-    show_task(tasks[63]);
+// What is printed of what a text gives: its wrong line, 0 where none is, and its weighted table, 0 throughout where a line is wrong.
+fn parts(parsed: Result<Weighted, WrongLine>) -> (WrongLine, Weighted) {
+    match parsed {
+        Ok(weighted) => (WrongLine { line: 0, due: 0 }, weighted),
+        Err(wrong) => (wrong, Weighted::none()),
+    }
 }
 
-// Prints what a text gives: the wrong line, the numbers due there, the table.
-fn show_table(line: usize, due: usize, table: Table) {
+// Prints what a text gives: the wrong line, the numbers due there, the table, of which four places.
+fn show_table(wrong: WrongLine, table: Table) {
     cases::show(
         b" # #, # # #",
         &[
-            line as u64,
-            due as u64,
-            table.count as u64,
-            table.p as u64,
-            table.q as u64,
+            wrong.line as u64,
+            wrong.due as u64,
+            u64::from(table.count),
+            u64::from(table.p),
+            u64::from(table.q),
         ],
     );
-    show_tasks(table);
+    for task in table.tasks[..3].iter().chain(&table.tasks[63..]) {
+        show_task(*task);
+    }
 }
 
 // Prints what the text of a plain table gives.
-fn show(parsed: Parsed) {
-    let table = parsed.table;
-    show_table(parsed.line, parsed.due, table);
+fn show(parsed: Result<Table, WrongLine>) {
+    let (wrong, weighted) = parts(parsed.map(|table| Weighted {
+        table,
+        weights: [0; MAX_TASKS],
+    }));
+    show_table(wrong, weighted.table);
     cases::text(b"\n");
 }
 
 // Prints what the text of a weighted table gives.
-fn show_weighted(parsed: WeightedParsed) {
-    let weighted = parsed.weighted;
-    let table = weighted.table;
+fn show_weighted(parsed: Result<Weighted, WrongLine>) {
+    let (wrong, weighted) = parts(parsed);
     let weights = weighted.weights;
-    show_table(parsed.line, parsed.due, table);
+    show_table(wrong, weighted.table);
     cases::show(
         b"; # # # #\n",
         &[
-            weights[0] as u64,
-            weights[1] as u64,
-            weights[2] as u64,
-            weights[63] as u64,
+            u64::from(weights[0]),
+            u64::from(weights[1]),
+            u64::from(weights[2]),
+            u64::from(weights[63]),
         ],
     );
 }
@@ -124,7 +124,10 @@ fn refusal(line: &[u8]) {
 }
 
 // The case of a text, on a line that starts with a given byte.
-fn text_case(start: u8, text: &[u8]) {
+fn text_case(start: u8, line: &[u8]) {
+    let mut text = [0u8; 600];
+    let length = unescape(cases::from_field(line, 1), &mut text);
+    let text = &text[..length];
     match start {
         b'o' => conversions::out_of_text(text),
         b'O' => conversions::out_of_weighted_text(text),
@@ -139,36 +142,14 @@ fn case(start: u8, line: &[u8]) {
         return;
     }
     cases::show_title(line);
-    if start == b'r' {
-        refusal(line);
-        return;
-    }
-    if start == b'i' {
-        conversions::into_text(line);
-        return;
-    }
-    if start == b'I' {
-        conversions::into_weighted_text(line);
-        return;
-    }
-    let mut text = [0u8; 600];
-    let behind = cases::start_of(line, 1);
-    let length = unescape(&line[behind..], &mut text);
-    text_case(start, &text[..length]);
-}
-
-// The cases of a text, line by line.
-fn all(text: &[u8]) {
-    let mut start: usize = 0;
-    while start < text.len() {
-        let next = cases::next_line(text, start);
-        case(text[start], &text[start..next]);
-        start = next;
+    match start {
+        b'r' => refusal(line),
+        b'i' => conversions::into_text(line),
+        b'I' => conversions::into_weighted_text(line),
+        _ => text_case(start, line),
     }
 }
 
 fn main() {
-    let mut text = io::large_buffer();
-    let length = io::read_full(STDIN, &mut text);
-    all(&text[..length]);
+    cases::for_each_line(case);
 }

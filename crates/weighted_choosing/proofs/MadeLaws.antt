@@ -144,7 +144,7 @@ module _ (worth : Job → ℕ) (at : ℕ → Job) (count : ℕ) (small : count �
       module _ (room next : ℕ) (ticks' decisions' : List ℕ) (room-is : room ≡ window_ticks (at i) - (mandatory + (at i).mandatory))
           (put : BitPut kept' (max_weight - weight) ticks i (top + weight + 1) decisions decisions')
           (lesser : LesserPut kept' (max_weight - weight) room (top + weight + 1) ticks ticks')
-          (next_is : next ≡ greatest huge_ticks (λ v. get_or ticks' (0 + v) 0) (top + weight)) where
+          (next_is : next ≡ greatest huge_ticks (λ v. get_or ticks' v 0) (top + weight)) where
         -- the window has fewer ticks than huge
         window-small : window_ticks (at i) < huge_ticks
         window-small = omega (arith, bounded.deadline)
@@ -177,8 +177,8 @@ module _ (worth : Job → ℕ) (at : ℕ → Job) (count : ℕ) (small : count �
         next_row : next ≡ greatest huge_ticks (row_over worth (at i ∷ inside)) (top + weight)
         next_row =
             next_is
-            ∙ greatest_same huge_ticks (λ v. get_or ticks' (0 + v) 0) (row_over worth (at i ∷ inside)) (top + weight)
-            (λ v l. let first : 0 + v ≡ v = omega arith in rw first (made_in v l))
+            ∙ greatest_same huge_ticks (λ v. get_or ticks' v 0) (row_over worth (at i ∷ inside)) (top + weight)
+            made_in
 
         last_step : Last (row_over worth (at i ∷ inside)) next
         last_step =

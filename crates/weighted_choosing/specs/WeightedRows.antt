@@ -4,7 +4,7 @@ use Rattle.base.specs.Limits.{max_tasks, max_weight}
 use Rattle.base.specs.Tests.{pick}
 use Rattle.base.specs.Arrays.{Rewritten}
 use Rattle.schedule.specs.declared.Job.{Job}
-use Rattle.schedule.specs.JobArrays.{no_job, jobs_in}
+use Rattle.schedule.specs.JobArrays.{no_job}
 use Rattle.choice.specs.Decisions.{huge_ticks, row_over, Last, DecidedBy}
 
 -- the places of a row: one for each weight that a list can keep, 0 among them
@@ -45,9 +45,9 @@ abbrev pub LesserPut : List ℕ → ℕ → ℕ → ℕ → List ℕ → List �
 LesserPut kept from room places before after =
     Rewritten 0 (λ v. held_to room (min (get_or kept (from + v) 0) (get_or before v 0))) 0 0 places before after
 
--- The decisions of the first `count` of some jobs, and the greatest weight that a list that fits keeps.
-pub record WeightsDecided (worth : Job → ℕ) (jobs : List Job) (count : ℕ) (decisions : List ℕ) (most : ℕ) : Type 0 where
+-- The decisions of some jobs, and the greatest weight that a list that fits keeps.
+pub record WeightsDecided (worth : Job → ℕ) (jobs : List Job) (decisions : List ℕ) (most : ℕ) : Type 0 where
   pub words : length decisions ≡ weight_places
   pub within : most < weight_places
-  pub decided : DecidedBy worth (λ k. get_or jobs k no_job) count 0 (λ k v. bit_set (get_or decisions v 0) k)
-  pub last : Last (row_over worth (jobs_in jobs count)) most
+  pub decided : DecidedBy worth (λ k. get_or jobs k no_job) (length jobs) 0 (λ k v. bit_set (get_or decisions v 0) k)
+  pub last : Last (row_over worth jobs) most

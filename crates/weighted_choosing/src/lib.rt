@@ -6,7 +6,7 @@
 
 ghost use Rattle.std.specs.Prelude.{◌≡◌, true, ℕ, ◌+◌, ◌%◌, ◌^◌, ◌≤◌, ◌<◌, min, leb, length, get_or, replicate};
 ghost use Rattle.base.specs.Limits.{max_tasks, max_ticks, max_weight};
-ghost use Rattle.schedule.specs.JobArrays.{no_job, jobs_in, AllBounded};
+ghost use Rattle.schedule.specs.JobArrays.{no_job, AllBounded};
 ghost use Rattle.choice.specs.Choice.{fits, keep_none, weighed, chosen_over};
 ghost use Rattle.choice.specs.KeepLists.{keeps_in, ChosenFor};
 ghost use Rattle.choice.specs.Decisions.{huge_ticks, back_over};
@@ -30,8 +30,7 @@ fn weight_of(job: Job, weights: &[u32]) -> usize
     if job.optional == 0 {
         return 0;
     }
-    let position = job.position as usize;
-    weights[position] as usize
+    weights[job.position as usize] as usize
 }
 
 // Whether a number of ticks is at most another. They are compared as signed numbers, which a processor does for four at a time in one step; for unsigned
@@ -48,10 +47,7 @@ fn lesser(a: u32, b: u32) -> u32
     requires { (a < 2 ^ 31) × (b < 2 ^ 31) }
     ensures { result ≡ min a b }
 {
-    if at_most(a, b) {
-        return a;
-    }
-    b
+    if at_most(a, b) { a } else { b }
 }
 
 // A number of ticks, and HUGE where there is no room for them.
@@ -59,20 +55,14 @@ fn held_to(room: u32, ticks: u32) -> u32
     requires { (ticks < 2 ^ 31) × (room < 2 ^ 31) }
     ensures { result ≡ held_to room ticks }
 {
-    if at_most(ticks, room) {
-        return ticks;
-    }
-    HUGE
+    if at_most(ticks, room) { ticks } else { HUGE }
 }
 
 // A bit where a test holds, and else 0.
 fn bit_where(test: bool, bit: u64) -> u64
     ensures { result ≡ bit_where test bit }
 {
-    if test {
-        return bit;
-    }
-    0
+    if test { bit } else { 0 }
 }
 
 // Whether bit i of a word is set.
@@ -83,17 +73,16 @@ fn bit_set(word: u64, i: usize) -> bool
     (word >> i as u32) % 2 == 1
 }
 
-// The ticks of a part added to the first numbers of a row, from place FRONT on.
+// The ticks of a part added to the first numbers of a row, from place FRONT on. This loop and the two below take whole lists and how many places they go
+// over: as slices, each call would cut three parts by the same two numbers, and its proof would put them together again.
 fn add_part(row: &[u32], kept: &mut [u32], places: usize, optional: u32)
     requires places_in_bounds { (places ≤ length row.now) × (max_weight + places ≤ length kept.old) }
     requires optional_le_max_ticks { optional ≤ max_ticks }
     requires by_index { (v : ℕ) → v < places → get_or row.now v 0 ≤ huge_ticks }
     ensures { PartAddedTo row.now optional places kept.old kept.new }
 {
-    let mut v: usize = 0;
-    while v < places {
+    for v in 0..places {
         kept[FRONT + v] = optional + row[v];
-        v += 1;
     }
 }
 
@@ -106,11 +95,9 @@ fn decide(kept: &[u32], from: usize, row: &[u32], decisions: &mut [u64], places:
     ensures { BitPut kept.now from row.now i places decisions.old decisions.new }
 {
     let bit = 1u64 << i as u32;
-    let mut v: usize = 0;
-    while v < places {
+    for v in 0..places {
         let keep = at_most(kept[from + v], row[v]);
         decisions[v] += bit_where(keep, bit);
-        v += 1;
     }
 }
 
@@ -121,38 +108,33 @@ fn next_row(kept: &[u32], from: usize, row: &mut [u32], places: usize, room: u32
     requires room_bound { room < 2 ^ 31 }
     ensures { LesserPut kept.now from room places row.old row.new }
 {
-    let mut v: usize = 0;
-    while v < places {
+    for v in 0..places {
         row[v] = held_to(room, lesser(kept[from + v], row[v]));
-        v += 1;
     }
 }
 
-// The decisions of the jobs that stand outermost first at the first `count` places, in lent words of 0; the row and the row with a part added are lent, HUGE
-// throughout. The greatest weight that a list that fits keeps is given back. A row is made up to the greatest weight of the jobs inside and the job's own.
+// The decisions of jobs that stand outermost first, in lent words of 0; the row and the row with a part added are lent, HUGE throughout. The greatest weight
+// that a list that fits keeps is given back. A row is made up to the greatest weight of the jobs inside and the job's own.
 fn rows_of(
-    jobs: [Job; MAX_TASKS],
-    count: usize,
+    jobs: &[Job],
     weights: &[u32],
     row: &mut [u32],
     kept: &mut [u32],
     decisions: &mut [u64],
 ) -> usize
-    requires count_le_max_tasks { count ≤ max_tasks }
-    requires all_bounded { AllBounded jobs count }
-    requires count_value { fits (jobs_in jobs count) (keep_none (jobs_in jobs count)) ≡ true }
-    requires by_index { (k : ℕ) → k < count → (get_or jobs k no_job).position < max_tasks }
+    requires count_le_max_tasks { length jobs.now ≤ max_tasks }
+    requires all_bounded { AllBounded jobs.now }
+    requires count_value { fits jobs.now (keep_none jobs.now) ≡ true }
+    requires by_index { (k : ℕ) → k < length jobs.now → (get_or jobs.now k no_job).position < max_tasks }
     requires weights_len { (length weights.now ≡ max_tasks) × ((k : ℕ) → k < max_tasks → get_or weights.now k 0 ≤ max_weight) }
     requires row_value { (row.old ≡ replicate weight_places huge_ticks) × (kept.old ≡ replicate weight_places huge_ticks) }
     requires decisions_value { decisions.old ≡ replicate weight_places 0 }
-    ensures { WeightsDecided (weighed (λ k. get_or weights.now k 0)) jobs count decisions.new result }
+    ensures { WeightsDecided (weighed (λ k. get_or weights.now k 0)) jobs.now decisions.new result }
 {
     row[0] = 0;
     let mut mandatory: u32 = 0;
     let mut top: usize = 0;
-    let mut i = count;
-    while 0 < i {
-        i -= 1;
+    for i in (0..jobs.len()).rev() {
         let job = jobs[i];
         mandatory += job.mandatory;
         let room = choosing::room_beside(job, mandatory);
@@ -162,36 +144,28 @@ fn rows_of(
         add_part(row, kept, top + 1, job.optional);
         decide(kept, from, row, decisions, most + 1, i);
         next_row(kept, from, row, most + 1, room);
-        top = choosing::most_within(row, 0, most, HUGE - 1);
+        top = choosing::most_within(&row[..=most], HUGE - 1);
     }
     top
 }
 
 // The marks from the outermost job inwards, by the bits at the weight that is still to be kept, `most` in all, and how many parts above 0 ticks they keep and
 // discard.
-fn read_back(
-    jobs: [Job; MAX_TASKS],
-    count: usize,
-    weights: &[u32],
-    decisions: &[u64],
-    most: usize,
-) -> Choice
-    requires count_le_max_tasks { count ≤ max_tasks }
-    requires by_index { (k : ℕ) → k < count → (get_or jobs k no_job).position < max_tasks }
+fn read_back(jobs: &[Job], weights: &[u32], decisions: &[u64], most: usize) -> Choice
+    requires count_le_max_tasks { length jobs.now ≤ max_tasks }
+    requires by_index { (k : ℕ) → k < length jobs.now → (get_or jobs.now k no_job).position < max_tasks }
     requires weights_len { length weights.now ≡ max_tasks }
-    requires weights_decided { WeightsDecided (weighed (λ k. get_or weights.now k 0)) jobs count decisions.now most }
-    ensures { ChosenFor (λ all. back_over (weighed (λ k. get_or weights.now k 0)) all most) (jobs_in jobs count) (keeps_in result.keeps count)
+    requires weights_decided { WeightsDecided (weighed (λ k. get_or weights.now k 0)) jobs.now decisions.now most }
+    ensures { ChosenFor (λ all. back_over (weighed (λ k. get_or weights.now k 0)) all most) jobs.now (keeps_in result.keeps (length jobs.now))
         result.kept result.discarded }
 {
     let mut keeps = [false; MAX_TASKS];
     let mut kept: usize = 0;
     let mut discarded: usize = 0;
     let mut left = most;
-    let mut i: usize = 0;
-    while i < count {
-        let job = jobs[i];
-        let part = choosing::worth(job);
-        let weight = weight_of(job, weights);
+    for (i, job) in jobs.iter().enumerate() {
+        let part = choosing::worth(*job);
+        let weight = weight_of(*job, weights);
         let keep = bit_set(decisions[left], i);
         keeps[i] = keep;
         if keep {
@@ -200,7 +174,6 @@ fn read_back(
         } else {
             discarded += part;
         }
-        i += 1;
     }
     Choice {
         keeps,
@@ -209,18 +182,18 @@ fn read_back(
     }
 }
 
-// The keep list of the jobs that stand outermost first at the first `count` places, by the weights of their positions. Its counts are of parts.
-pub fn choose(jobs: [Job; MAX_TASKS], count: usize, weights: [u32; MAX_TASKS]) -> Choice
-    requires count_le_max_tasks { count ≤ max_tasks }
-    requires all_bounded { AllBounded jobs count }
-    requires count_value { fits (jobs_in jobs count) (keep_none (jobs_in jobs count)) ≡ true }
-    requires by_index { (k : ℕ) → k < count → (get_or jobs k no_job).position < max_tasks }
-    requires by_index_2 { (k : ℕ) → k < max_tasks → get_or weights k 0 ≤ max_weight }
-    ensures { ChosenFor (chosen_over (weighed (λ k. get_or weights k 0))) (jobs_in jobs count) (keeps_in result.keeps count) result.kept result.discarded }
+// The keep list of jobs that stand outermost first, by the weights of their positions. Its counts are of parts.
+pub fn choose(jobs: &[Job], weights: &[u32; MAX_TASKS]) -> Choice
+    requires count_le_max_tasks { length jobs.now ≤ max_tasks }
+    requires all_bounded { AllBounded jobs.now }
+    requires count_value { fits jobs.now (keep_none jobs.now) ≡ true }
+    requires by_index { (k : ℕ) → k < length jobs.now → (get_or jobs.now k no_job).position < max_tasks }
+    requires by_index_2 { (k : ℕ) → k < max_tasks → get_or weights.now k 0 ≤ max_weight }
+    ensures { ChosenFor (chosen_over (weighed (λ k. get_or weights.now k 0))) jobs.now (keeps_in result.keeps (length jobs.now)) result.kept result.discarded }
 {
     let mut row = [HUGE; PLACES];
     let mut kept = [HUGE; PLACES];
     let mut decisions = [0u64; PLACES];
-    let most = rows_of(jobs, count, &weights, &mut row, &mut kept, &mut decisions);
-    read_back(jobs, count, &weights, &decisions, most)
+    let most = rows_of(jobs, weights, &mut row, &mut kept, &mut decisions);
+    read_back(jobs, weights, &decisions, most)
 }

@@ -6,6 +6,7 @@ use mathlib.Core.Bool.{true, false}
 use native.Mathlib.Omega.{arith}
 use lib.Dec.{ltb, eqb}
 use lib.ListN.{length, get_or, take}
+use lib.Seq.{get_or-take, length-take-le}
 use borrow.Author.Tests.{ltb-false, eqb-false, le-ltb}
 use native.Mathlib.Decide.{dec_lt}
 use Rattle.base.specs.Tests.{pick}
@@ -16,10 +17,10 @@ use Rattle.bits.specs.Bits.{Bytes, bytes_for}
 use Rattle.bits.specs.Rows.{fields_from}
 use Rattle.bits.proofs.RowLaws.{RowFits}
 use Rattle.table.specs.declared.Task.{Task}
-use Rattle.table.specs.declared.Answer.TheVariants.{Accepted, Weight}
+use Rattle.table.specs.declared.Refusal.TheVariants.{Weight}
 use Rattle.table.specs.Tables.{task_at, table_of, task_of}
 use Rattle.table.specs.Layout.{row_start, rows_length}
-use Rattle.table.specs.Answers.{is_accepted, wrote}
+use Rattle.table.specs.Answers.{Accepted, is_accepted, lowest_refusal, wrote}
 use Rattle.table.specs.Kinds.{is_nested, nested_answer}
 use Rattle.table.specs.Reading.{count_in, p_in, q_in, table_in, read_answer}
 use Rattle.table.specs.Writing.{file_of, too_wide, first_too_wide, Legal}
@@ -32,8 +33,8 @@ use Rattle.table.proofs.RowFiles.{count_known}
 use Rattle.table.proofs.RowTables as rows
 use Rattle.table.proofs.RowTables.{Form}
 use Rattle.weighted_file.specs.declared.Weighted.{Weighted}
-use Rattle.weighted_file.specs.declared.WeightedReading.{WeightedReading}
 use Rattle.weighted_file.specs.Weights.{
+  WeightedReading,
   weighted_widths,
   weighted_width,
   weighted_length,
@@ -84,6 +85,16 @@ of_rows w h =
       weights = λ k l. given_below 0 w.table.count (λ j. get_or w.weights j 0) k (omega arith) l;
     }
 
+-- The weights up to the count answer what the weighted table answers of its weights.
+pub weights_taken : (w : Weighted) → length w.weights ≡ max_tasks → w.table.count ≤ max_tasks
+    → lowest_refusal Weight (λ k. bad_weight (get_or (take w.table.count w.weights) k 0)) (length (take w.table.count w.weights)) ≡ weight_answer w
+unfolding weight_answer weight_at
+weights_taken w size few =
+    let n : length (take w.table.count w.weights) ≡ w.table.count = length-take-le w.table.count w.weights (omega arith) in
+    rw n
+    (refused_same Weight (λ k. bad_weight (get_or (take w.table.count w.weights) k 0)) (λ k. bad_weight (get_or w.weights k 0)) w.table.count
+    (λ k l. ap bad_weight (get_or-take w.table.count w.weights k 0 l)))
+
 -- Weighted tables that are the same obey the same rules.
 pub rules_same : (a b : Weighted) → SameWeighted a b → weighted_rules a ≡ weighted_rules b
 unfolding weighted_rules weight_answer
@@ -101,7 +112,7 @@ rules_known w e = nested_known (weight_answer w) w.table e
 weights_known : (w : Weighted) → weighted_rules w ≡ Accepted → (k : ℕ) → k < w.table.count → (1 ≤ weight_at w k) × (weight_at w k ≤ max_weight)
 unfolding weight_answer bad_weight
 weights_known w e k l =
-    let good = refused_none Weight (λ k. refl) (λ k. bad_weight (weight_at w k)) w.table.count (rules_known w e).ruled k l in
+    let good = refused_none Weight (λ k. bad_weight (weight_at w k)) w.table.count (rules_known w e).ruled k l in
     let least = eqb-false (weight_at w k) 0 (or_left (eqb (weight_at w k) 0) (ltb max_weight (weight_at w k)) good) in
     (omega arith, ltb-false max_weight (weight_at w k) (or_right (eqb (weight_at w k) 0) (ltb max_weight (weight_at w k)) good))
 

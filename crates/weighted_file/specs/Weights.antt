@@ -1,22 +1,21 @@
 -- Weighted tables, as request 7 has them: the table value, its file, and what reading and writing reply. 'A weighted table is a nested table whose tasks each
 -- carry 4 more bits after the optional ticks, a weight of 1 to 15, so 66 bits a task.'
-use Rattle.std.specs.Prelude.{ℕ, ◌+◌, ◌<◌, ◌≡◌, List, [], ◌∷◌, ◌++◌, Bool, ltb, eqb, length, get_or}
+use Rattle.std.specs.Prelude.{ℕ, ◌+◌, ◌<◌, ◌≡◌, List, [], ◌∷◌, ◌++◌, Bool, ltb, eqb, length, get_or, Result}
 use Rattle.base.specs.Limits.{max_tasks, max_weight}
 use Rattle.base.specs.Tests.{pick, or}
 use Rattle.base.specs.Places.{places}
 use Rattle.base.specs.Lent.{content_after}
 use Rattle.bits.specs.Rows.{row_width, fields_from}
-use Rattle.table.specs.declared.Answer.{Answer}
-use Rattle.table.specs.declared.Answer.TheVariants.{Weight}
+use Rattle.table.specs.declared.Refusal.{Refusal}
+use Rattle.table.specs.declared.Refusal.TheVariants.{Weight}
 use Rattle.table.specs.declared.Written.{Written}
 use Rattle.table.specs.Tables.{task_at, table_of, task_row, task_of, no_table, Same}
 use Rattle.table.specs.Layout.{task_widths, row_start, rows_length}
-use Rattle.table.specs.Answers.{is_accepted, first_refusal, lowest_refusal}
+use Rattle.table.specs.Answers.{Answer, is_accepted, answered, first_refusal, lowest_refusal}
 use Rattle.table.specs.Kinds.{nested_answer}
 use Rattle.table.specs.Reading.{count_in, p_in, q_in, front_answer, ReadTable}
 use Rattle.table.specs.Writing.{rows_file, first_too_wide, rows_reply}
 use Rattle.weighted_file.specs.declared.Weighted.{Weighted}
-use Rattle.weighted_file.specs.declared.WeightedReading.{WeightedReading}
 
 -- the width of a weight in bits
 abbrev pub weight_width : ℕ
@@ -87,7 +86,16 @@ weighted_rules w = nested_answer (weight_answer w) (task_at w.table) w.table.cou
 unfoldable pub weighted_answer : List ℕ → Answer
 weighted_answer s = first_refusal (front_answer weighted_width s) (weighted_rules (weighted_in s))
 
--- the reply of reading: a refused reading returns a weighted table that is 0 throughout
+-- what reading returns: the weighted table that the file holds, or the refusal
+unfoldable pub weighted_read_result : List ℕ → Result Weighted Refusal
+weighted_read_result s = answered (weighted_answer s) (weighted_in s)
+
+-- the reply of reading as C has it, which has a weighted table beside each answer
+pub record WeightedReading : Type 0 where
+  pub answer : Answer
+  pub weighted : Weighted
+
+-- a refused reading replies with a weighted table that is 0 throughout
 unfoldable pub weighted_read_reply : List ℕ → WeightedReading
 weighted_read_reply s = record { answer = weighted_answer s; weighted = pick (is_accepted (weighted_answer s)) (weighted_in s) no_weighted }
 

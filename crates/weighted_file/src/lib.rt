@@ -1,14 +1,14 @@
 // The weighted table value, a table and beside it a weight for each task; the widths and lengths of its file; and the rules that reading and writing share.
 #![tactic(auto)]
 
-ghost use Rattle.std.specs.Prelude.{◌≡◌, ◌≤◌, length, get_or};
+ghost use Rattle.std.specs.Prelude.{◌≡◌, ◌≤◌, length, get_or, position};
 ghost use Rattle.base.specs.Limits.{max_tasks};
-ghost use Rattle.table.specs.declared.Answer.TheVariants.{Weight};
+ghost use Rattle.table.specs.declared.Refusal.TheVariants.{Weight};
 ghost use Rattle.table.specs.Answers.{lowest_refusal};
 ghost use Rattle.weighted_file.specs.Weights.{no_weighted, bad_weight, weighted_rules};
 
 use base::{MAX_TASKS, MAX_WEIGHT};
-use table::{Answer, HEADER_WIDTH, TASK_WIDTH, Table};
+use table::{HEADER_WIDTH, Refusal, TASK_WIDTH, Table};
 
 // The widths of a weight, and of a task with its weight.
 pub const WEIGHT_WIDTH: usize = 4;
@@ -29,13 +29,6 @@ pub struct Weighted {
     pub weights: [u32; MAX_TASKS],
 }
 
-// The reply of reading a weighted file: the answer, and the weighted table.
-#[derive(Clone, Copy)]
-pub struct WeightedReading {
-    pub answer: Answer,
-    pub weighted: Weighted,
-}
-
 // A weight is 0 or above the limit.
 fn bad_weight(weight: u32) -> bool
     ensures { result ≡ bad_weight weight }
@@ -43,19 +36,21 @@ fn bad_weight(weight: u32) -> bool
     weight == 0 || MAX_WEIGHT < weight
 }
 
-// The first of the weights in a column that is bad, as an answer.
-fn weight_answer(weights: &[u32], count: usize) -> Answer
-    requires { count ≤ length weights.now }
-    ensures { result ≡ lowest_refusal Weight (λ k. bad_weight (get_or weights.now k 0)) count }
+// The first of some weights that is bad.
+fn first_bad(weights: &[u32]) -> Option<usize>
+    ensures { result ≡ position bad_weight weights.now }
 {
-    let mut k: usize = 0;
-    while k < count {
-        if bad_weight(weights[k]) {
-            return Answer::Weight(k);
-        }
-        k += 1;
+    weights.iter().position(|weight| bad_weight(*weight))
+}
+
+// The first of some weights that is bad is refused.
+fn weight_answer(weights: &[u32]) -> Result<(), Refusal>
+    ensures { result ≡ lowest_refusal Weight (λ k. bad_weight (get_or weights.now k 0)) (length weights.now) }
+{
+    match first_bad(weights) {
+        Some(bad) => Err(Refusal::Weight(bad)),
+        None => Ok(()),
     }
-    Answer::Accepted
 }
 
 impl Weighted {
@@ -70,14 +65,13 @@ impl Weighted {
         }
     }
 
-    // What the windows and the weights of a weighted table answer: the first window that is bad, else the first weight that is, else the first window that
-    // crosses an earlier one, else nothing refused.
-    pub fn rules_answer(self) -> Answer
+    // What the windows and the weights of a weighted table answer: the first window that is bad is refused, else the first weight that is, else the first
+    // window that crosses an earlier one.
+    pub fn rules_answer(self) -> Result<(), Refusal>
         requires { self.table.count ≤ max_tasks }
         ensures { result ≡ weighted_rules self }
     {
-        let table = self.table;
-        let weights = weight_answer(&self.weights, table.count as usize);
-        table.nested_answer(weights)
+        let weights = weight_answer(&self.weights[..self.table.count as usize]);
+        self.table.nested_answer(weights)
     }
 }

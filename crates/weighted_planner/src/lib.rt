@@ -2,13 +2,13 @@
 // of work, and the marks and runs in the lent lists. All but reading and the choice is what planner has.
 #![tactic(auto)]
 
-ghost use Rattle.std.specs.Prelude.{◌≡◌, true, ℕ, ◌≤◌, ◌<◌, get_or};
+ghost use Rattle.std.specs.Prelude.{◌≡◌, true, ℕ, ◌≤◌, ◌<◌, length, get_or};
 ghost use Rattle.base.specs.Limits.{max_tasks, max_weight};
 ghost use Rattle.table.specs.Kinds.{is_nested};
 ghost use Rattle.table.specs.Writing.{Legal};
 ghost use Rattle.weighted_file.specs.Weights.{weight_at, weighted_read};
-ghost use Rattle.schedule.specs.JobArrays.{jobs_in};
 ghost use Rattle.plans.specs.Planning.{lent_before, lent_after, reply_by, after_by, plan_table, plan_reply, lists_after, lists_left};
+ghost use Rattle.planner.specs.Refusals.{planned_of};
 ghost use Rattle.plans.specs.KindJobs.{HeldJobs};
 ghost use Rattle.plans.specs.Demands.{EightExactly, JudgeAccepts, PlannedByWeight};
 ghost use Rattle.plans.specs.Rules.{PlannedByRules, EightFirst};
@@ -16,41 +16,38 @@ ghost use Rattle.plans.specs.Launch.{EarlierAtZero, LaterByLaunch};
 ghost use Rattle.weighted_plans.specs.Unweighted.{EqualsUnweighted};
 
 use base::MAX_TASKS;
+use ordering::Kind;
+use planner::PlanRefusal;
 use plans::Planned;
 use schedule::Job;
-use table::Answer;
 use weighted_file::Weighted;
 
-// Planning jobs of a nested table by the weights of their positions: 8, then 9, then the plan. The jobs stand outermost first at the first `count` places.
+// Planning jobs of a nested table by the weights of their positions: 8, then 9, then the plan. The jobs stand outermost first. Only the choice differs from
+// planner's: as a closure it would need a contract over every weight, for a body of three calls.
 fn plan_jobs(
-    jobs: [Job; MAX_TASKS],
-    count: usize,
-    weights: [u32; MAX_TASKS],
+    jobs: &[Job],
+    weights: &[u32; MAX_TASKS],
     marks: &mut [u8],
     starts: &mut [u32],
     ends: &mut [u32],
     tasks: &mut [u32],
-) -> Planned
-    requires held_jobs { HeldJobs true jobs count }
-    requires by_index { (k : ℕ) → k < max_tasks → get_or weights k 0 ≤ max_weight }
-    ensures value { result ≡ reply_by true (λ k. get_or weights k 0) count (jobs_in jobs count) (lent_before marks starts ends tasks) }
+) -> Result<Planned, PlanRefusal>
+    requires held_jobs { HeldJobs true jobs.now }
+    requires by_index { (k : ℕ) → k < max_tasks → get_or weights.now k 0 ≤ max_weight }
+    ensures value { planned_of result ≡ reply_by true (λ k. get_or weights.now k 0) (length jobs.now) jobs.now (lent_before marks starts ends tasks) }
     ensures tasks_value { lent_after marks starts ends tasks
-        ≡ after_by true (λ k. get_or weights k 0) count (jobs_in jobs count) result (lent_before marks starts ends tasks) }
+        ≡ after_by true (λ k. get_or weights.now k 0) (length jobs.now) jobs.now (planned_of result) (lent_before marks starts ends tasks) }
 {
-    let refusal = planner::refused_jobs(
+    planner::refused_jobs(
         jobs,
-        count,
-        true,
+        Kind::Nested,
         marks.len(),
         starts.len(),
         ends.len(),
         tasks.len(),
-    );
-    if refusal.number != 0 {
-        return refusal;
-    }
-    let choice = weighted_choosing::choose(jobs, count, weights);
-    planner::put_choice(jobs, count, true, choice, marks, starts, ends, tasks)
+    )?;
+    let choice = weighted_choosing::choose(jobs, weights);
+    Ok(planner::put_choice(jobs, Kind::Nested, &choice, marks, starts, ends, tasks))
 }
 
 // Planning the weighted table of an accepted file at a launch tick: 14 first.
@@ -61,25 +58,23 @@ fn plan_weighted(
     starts: &mut [u32],
     ends: &mut [u32],
     tasks: &mut [u32],
-) -> Planned
+) -> Result<Planned, PlanRefusal>
     requires legal { Legal weighted.table }
     requires table_value { is_nested weighted.table ≡ true }
     requires by_index { (k : ℕ) → k < max_tasks → weight_at weighted k ≤ max_weight }
-    ensures value { result ≡ plan_table launch (weight_at weighted) weighted.table (lent_before marks starts ends tasks) }
+    ensures value { planned_of result ≡ plan_table launch (weight_at weighted) weighted.table (lent_before marks starts ends tasks) }
     ensures tasks_value { lent_after marks starts ends tasks
-        ≡ lists_after launch (weight_at weighted) weighted.table result (lent_before marks starts ends tasks) }
+        ≡ lists_after launch (weight_at weighted) weighted.table (planned_of result) (lent_before marks starts ends tasks) }
 {
     if clock::bad_launch(launch) {
-        return planner::declined(14, 0);
+        return Err(PlanRefusal::Launch);
     }
     let table = weighted.table;
-    let weights = weighted.weights;
-    let keys = ordering::keys_by(table, true);
-    let jobs = ordering::jobs_last_first(table, launch, keys);
+    let keys = ordering::keys_by(table, Kind::Nested);
+    let jobs = ordering::jobs_last_first(table, launch, &keys);
     plan_jobs(
-        jobs,
-        table.count as usize,
-        weights,
+        &jobs[..table.count as usize],
+        &weighted.weights,
         marks,
         starts,
         ends,
@@ -118,11 +113,8 @@ pub fn plan(
         (lent_before marks starts ends tasks)
         (lent_after marks starts ends tasks) }
 {
-    let read = weighted_reading::read(file);
-    let weighted = read.weighted;
-    let answer = read.answer;
-    let Answer::Accepted = answer else {
-        return planner::declined(answer.number(), answer.place());
-    };
-    plan_weighted(weighted, launch, marks, starts, ends, tasks)
+    match weighted_reading::read(file) {
+        Ok(weighted) => planner::reply(plan_weighted(weighted, launch, marks, starts, ends, tasks)),
+        Err(refusal) => planner::declined(PlanRefusal::from(refusal)),
+    }
 }

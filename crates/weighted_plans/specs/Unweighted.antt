@@ -1,6 +1,6 @@
 -- 'With all weights 1 the plan equals the unweighted one': document 02, 'Some smoothing matters more', as a clause of the weighted plan call.
 use Rattle.std.specs.Prelude.{ℕ, ◌<◌, ◌≡◌, List}
-use Rattle.table.specs.declared.Answer.TheVariants.{Accepted}
+use Rattle.table.specs.Answers.{Accepted}
 use Rattle.table.specs.Reading.{plain_read}
 use Rattle.table.specs.Writing.{file_of}
 use Rattle.weighted_file.specs.declared.Weighted.{Weighted}

@@ -1,7 +1,10 @@
--- For proofs alone: what reading a weighted file replies, without the weights.
-use Rattle.table.specs.declared.Reading.{Reading}
-use Rattle.weighted_file.specs.declared.WeightedReading.{WeightedReading}
+-- For proofs alone: what reading a weighted file returns, without the weights.
+use Rattle.std.specs.Prelude.{Result, Ok, Err}
+use Rattle.table.specs.declared.Table.{Table}
+use Rattle.table.specs.declared.Refusal.{Refusal}
+use Rattle.weighted_file.specs.declared.Weighted.{Weighted}
 
--- the answer, and the table of the weighted table
-abbrev pub without_weights : WeightedReading → Reading
-without_weights read = record { answer = read.answer; table = read.weighted.table }
+-- the table of the weighted table, or the refusal
+abbrev pub without_weights : Result Weighted Refusal → Result Table Refusal
+without_weights (Ok weighted) = Ok weighted.table
+without_weights (Err refusal) = Err refusal

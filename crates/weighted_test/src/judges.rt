@@ -1,29 +1,22 @@
 // Judging.
+ghost use Rattle.std.specs.Prelude.{◌≤◌, length};
 ghost use Rattle.schedule.specs.LentRuns.{OneLength};
 
-use schedule::Judged;
+use schedule::{Judged, Run};
 
 // The places of the lists.
 const ROOM: usize = 7;
-
-// 1 for yes and 0 for no.
-fn one(yes: bool) -> u64 {
-    if yes {
-        return 1;
-    }
-    0
-}
 
 // Prints the reply of judging.
 fn show_verdict(verdict: Judged) {
     cases::show(
         b" # # # # #\n",
         &[
-            verdict.number as u64,
+            u64::from(verdict.number),
             verdict.place as u64,
-            one(verdict.yes),
-            verdict.kept as u64,
-            verdict.discarded as u64,
+            u64::from(verdict.yes),
+            u64::from(verdict.kept),
+            u64::from(verdict.discarded),
         ],
     );
 }
@@ -38,19 +31,14 @@ pub fn show(
     ends: &[u32],
     tasks: &[u32],
 )
-    requires { OneLength starts ends tasks }
+    requires one_length { OneLength starts ends tasks }
+    requires room { length starts.now ≤ 7 }
 {
     if starts.len() < runs {
         return;
     }
-    show_verdict(weighted_judging::judge_columns(
-        file,
-        launch,
-        marks,
-        &starts[0..runs],
-        &ends[0..runs],
-        &tasks[0..runs],
-    ));
+    let records: [Run; ROOM] = schedule::runs_of(starts, ends, tasks);
+    show_verdict(weighted_judging::judge(file, launch, marks, &records[..runs]));
 }
 
 // A case: a file, the launch tick, the marks as bytes, and the starts, the ends and the tasks of the runs.

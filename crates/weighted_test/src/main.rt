@@ -8,13 +8,10 @@
 #![tactic(auto)]
 
 mod judges;
-mod lists;
 mod planning;
 mod reads;
 mod tables;
 mod writes;
-
-use cases::STDIN;
 
 // The case on a line that starts with a given byte.
 fn case(start: u8, line: &[u8]) {
@@ -31,18 +28,6 @@ fn case(start: u8, line: &[u8]) {
     }
 }
 
-// The cases of a text, line by line.
-fn all(text: &[u8]) {
-    let mut start: usize = 0;
-    while start < text.len() {
-        let next = cases::next_line(text, start);
-        case(text[start], &text[start..next]);
-        start = next;
-    }
-}
-
 fn main() {
-    let mut text = io::large_buffer();
-    let length = io::read_full(STDIN, &mut text);
-    all(&text[..length]);
+    cases::for_each_line(case);
 }

@@ -1,20 +1,21 @@
 // Reading.
 use crate::tables;
+use weighted_file::Weighted;
 
 // The most bytes of a file that is read.
 const MOST: usize = 600;
 
-// Reads a file and prints the answer, and the weighted table, or whether it is 0 throughout where the file is refused.
+// Reads a file and prints the answer, and the weighted table. Where the file is refused there is none, and it is printed whether the weighted table of no task,
+// which C gets, is 0 throughout.
 pub fn show(file: &[u8]) {
     let read = weighted_reading::read(file);
-    let answer = read.answer;
-    let weighted = read.weighted;
-    tables::show_answer(answer);
-    if answer.number() == 0 {
-        cases::text(b"\n");
-        tables::show(weighted);
-    } else {
-        tables::show_none(weighted);
+    tables::show_answer(read);
+    match read {
+        Ok(weighted) => {
+            cases::text(b"\n");
+            tables::show(weighted);
+        }
+        Err(_) => tables::show_none(Weighted::none()),
     }
 }
 

@@ -1,11 +1,14 @@
 // Weighted tables, printed.
-use base::MAX_TASKS;
-use table::{Answer, Task};
+use table::{NO_TASK, Refusal, Task};
 use weighted_file::Weighted;
 
-// Prints the number and the place of an answer.
-pub fn show_answer(answer: Answer) {
-    cases::show(b" # #", &[answer.number() as u64, answer.place() as u64]);
+// Prints the number and the place of what reading answers.
+pub fn show_answer(read: Result<Weighted, Refusal>) {
+    let (number, place) = match read {
+        Ok(_) => (0, 0),
+        Err(refusal) => (refusal.number(), refusal.place()),
+    };
+    cases::show(b" # #", &[u64::from(number), place as u64]);
 }
 
 // Prints a task and its weight.
@@ -14,35 +17,31 @@ fn show_task(position: usize, task: Task, weight: u32) {
         b"  task #: # # # # #\n",
         &[
             position as u64,
-            task.release as u64,
-            task.deadline as u64,
-            task.mandatory as u64,
-            task.optional as u64,
-            weight as u64,
+            u64::from(task.release),
+            u64::from(task.deadline),
+            u64::from(task.mandatory),
+            u64::from(task.optional),
+            u64::from(weight),
         ],
     );
 }
 
-// Prints the tasks up to the count, one to a line, and answers a number that is 0 where every place beyond them is 0.
-fn show_tasks(weighted: Weighted) -> u32 {
-    let table = weighted.table;
-    let count = table.count as usize;
-    let mut beyond: u32 = 0;
-    let mut i: usize = 0;
-    while i < MAX_TASKS {
-        let task = table.tasks[i];
-        let weight = weighted.weights[i];
+// Prints the tasks up to the count, one to a line, and answers whether every place beyond them is 0.
+fn show_tasks(weighted: Weighted) -> bool {
+    let count = weighted.table.count as usize;
+    let mut beyond = true;
+    for (i, (task, weight)) in weighted
+        .table
+        .tasks
+        .iter()
+        .zip(&weighted.weights)
+        .enumerate()
+    {
         if i < count {
-            show_task(i, task, weight);
+            show_task(i, *task, *weight);
         } else {
-            beyond = beyond
-                | task.release
-                | task.deadline
-                | task.mandatory
-                | task.optional
-                | weight;
+            beyond = beyond && *task == NO_TASK && *weight == 0;
         }
-        i += 1;
     }
     beyond
 }
@@ -52,9 +51,13 @@ pub fn show(weighted: Weighted) {
     let table = weighted.table;
     cases::show(
         b"  count # p # q #\n",
-        &[table.count as u64, table.p as u64, table.q as u64],
+        &[
+            u64::from(table.count),
+            u64::from(table.p),
+            u64::from(table.q),
+        ],
     );
-    if show_tasks(weighted) == 0 {
+    if show_tasks(weighted) {
         cases::text(b"  places beyond: 0\n");
     } else {
         cases::text(b"  places beyond: not 0\n");
@@ -64,7 +67,7 @@ pub fn show(weighted: Weighted) {
 // Prints whether a weighted table is 0 throughout.
 pub fn show_none(weighted: Weighted) {
     let table = weighted.table;
-    if table.count | table.p | table.q | show_tasks(weighted) == 0 {
+    if show_tasks(weighted) && table.count | table.p | table.q == 0 {
         cases::text(b" table 0\n");
     } else {
         cases::text(b" table not 0\n");

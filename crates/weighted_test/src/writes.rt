@@ -1,65 +1,44 @@
 // Writing.
-use crate::{lists, reads};
-use base::MAX_TASKS;
-use table::{NO_TASK, Table, Task};
+use crate::reads;
+use table::Task;
 use weighted_file::Weighted;
 
 // The numbers of a weighted table: count, p, q, and five for each task, of which the last is the weight.
 const NUMBERS: usize = 323;
 
-// The tasks among the numbers of a weighted table.
-fn tasks_of(numbers: [u32; NUMBERS]) -> [Task; MAX_TASKS] {
-    let mut tasks = [NO_TASK; MAX_TASKS];
-    let mut i: usize = 0;
-    while i < MAX_TASKS {
-        tasks[i] = Task {
-            release: numbers[5 * i + 3],
-            deadline: numbers[5 * i + 4],
-            mandatory: numbers[5 * i + 5],
-            optional: numbers[5 * i + 6],
-        };
-        i += 1;
-    }
-    tasks
-}
-
-// The weights among the numbers of a weighted table.
-fn weights_of(numbers: [u32; NUMBERS]) -> [u32; MAX_TASKS] {
-    let mut weights = [0u32; MAX_TASKS];
-    let mut i: usize = 0;
-    while i < MAX_TASKS {
-        weights[i] = numbers[5 * i + 7];
-        i += 1;
-    }
-    weights
-}
-
 // The weighted table whose numbers a field has.
 fn weighted_of(line: &[u8], field: usize) -> Weighted {
     let mut numbers = [0u32; NUMBERS];
     cases::numbers(line, field, &mut numbers);
-    let tasks = tasks_of(numbers);
-    let weights = weights_of(numbers);
-    let table = Table {
-        count: numbers[0],
-        p: numbers[1],
-        q: numbers[2],
-        tasks,
-    };
-    Weighted { table, weights }
+    let mut weighted = Weighted::none();
+    [weighted.table.count, weighted.table.p, weighted.table.q] = [
+        numbers[0], numbers[1], numbers[2],
+    ];
+    let places = weighted.table.tasks.iter_mut().zip(&mut weighted.weights);
+    for ((task, weight), row) in places.zip(numbers[3..].chunks_exact(5)) {
+        if let [release, deadline, mandatory, optional, last] = row {
+            *task = Task {
+                release: *release,
+                deadline: *deadline,
+                mandatory: *mandatory,
+                optional: *optional,
+            };
+            *weight = *last;
+        }
+    }
+    weighted
 }
 
 // Writes a weighted table into a list and prints the reply and the list; what was written is read again.
 fn write_into(weighted: Weighted, list: &mut [u8]) {
     let reply = weighted_writing::write(weighted, list);
-    lists::show_written(reply, list);
-    let bytes = reply.bytes;
-    if bytes == 0 {
+    cases::show_written(reply.number, reply.place, reply.bytes, list);
+    if reply.bytes == 0 {
         return;
     }
-    if bytes <= list.len() {
+    if let Some(written) = list.get(..reply.bytes) {
         cases::text(b"  read again:");
-        reads::show(&list[0..bytes]);
+        reads::show(written);
     }
 }
 

@@ -10,8 +10,8 @@ nonzero_rem-result c =
 pub overflow_add-result : goal.overflow_add-result
 overflow_add-result c =
     let a = c.args in
-    rw (join_is a.high a.low a.width c.requires.width_bound c.requires.high_bound) (omega (arith, join_lt a.high a.low a.width c.requires.width_bound c.requires.high_bound))
+    rw (c.from.ensures, join_is a.high a.low a.width c.requires.width_bound c.requires.high_bound) (omega (arith, join_lt a.high a.low a.width c.requires.width_bound c.requires.high_bound))
 
 pub returns : goal.returns
 returns c =
-    join_is c.args.high c.args.low c.args.width c.requires.width_bound c.requires.high_bound
+    rw c.from.ensures (join_is c.args.high c.args.low c.args.width c.requires.width_bound c.requires.high_bound)

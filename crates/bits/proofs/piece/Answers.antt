@@ -13,5 +13,5 @@ nonzero_rem-result c =
 pub returns : goal.returns
 returns c =
     let a = c.args in
-    let small : get_or a.file.now (a.at / 8) 0 < 256 = omega (arith, c.shared_slice_known-2-1.given (a.at / 8)) in
-    rw (c.long.ensures, one_shl a.width 64 (omega arith)) (sym (field_piece a.file.now a.at a.width small (omega arith)))
+    let small : get_or a.file.now (a.at / 8) 0 < 256 = omega (arith, c.type_inv.file (a.at / 8)) in
+    rw (c.from.ensures, one_shl a.width 64 (omega arith)) (sym (field_piece a.file.now a.at a.width small (omega arith)))

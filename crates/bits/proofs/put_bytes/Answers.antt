@@ -1,36 +1,24 @@
-use Prim.Native.Nat.{◌+◌, ◌*◌}
-use mathlib.Core.Path.{◌≡◌, refl, ◌∙◌}
+use Prim.Native.Nat.{◌+◌, ◌-◌, ◌*◌}
+use mathlib.Core.Path.{◌≡◌, ◌∙◌}
 use native.Mathlib.Omega.{arith}
 use Rattle.bits.specs.Bits.{bits_of}
 use Rattle.bits.specs.PutBits.{put_bits}
 use Rattle.bits.proofs.ByteLaws.{put_more}
 use Rattle.bits.proofs.put_bytes.Goals as goal
 
-pub loop-left-init : goal.loop-left-init
-loop-left-init c =
-    (omega arith, refl, refl, refl)
-
-pub loop-left-preserved : goal.loop-left-preserved
-loop-left-preserved c =
+pub loop-k-preserved : goal.loop-k-preserved
+loop-k-preserved c =
     let a = c.args in
-    let l = c.loop-left in
-    let next = c.put_piece.new.out in
-    let on : 8 * (l.k + 1) ≡ 8 * l.k + 8 = omega arith in (
+    let l = c.loop-k in
+    let on : 8 * (a.first + (l.k + 1)) ≡ 8 * (a.first + l.k) + 8 = omega arith in
+    let left : a.width - 8 * (l.k + 1) ≡ a.width - 8 * l.k - 8 = omega arith in
+    let put = rw left at c.put_piece.ensures in (
       omega arith,
-      omega arith,
-      omega arith,
-      rw on (put_more l.out next (8 * l.k) l.left 8 a.bits (omega arith) c.put_piece.ensures ∙ l.invariant.3),
+      rw (on, left) (put_more l.out c.put_piece.new.out (8 * (a.first + l.k)) (a.width - 8 * l.k) 8 a.bits (omega arith) put ∙ l.invariant.1),
     )
 
-pub shape_of-out-then-left-eq0 : goal.shape_of-out-then-left-eq0
-shape_of-out-then-left-eq0 c =
-    c.loop-left.invariant.2
-
-pub returns-then-left-eq0 : goal.returns-then-left-eq0
+pub returns-else-left-ne0 : goal.returns-else-left-ne0
 unfolding put_bits bits_of
-returns-then-left-eq0 c =
-    rw c.if-left-eq0.true at c.loop-left.invariant.3
-
-pub returns : goal.returns
-returns c =
-    c.put_piece-2.ensures ∙ c.loop-left.invariant.3
+returns-else-left-ne0 c =
+    let none : c.args.width - 8 * c.loop-k.k ≡ 0 = omega arith in
+    rw none at c.loop-k.invariant.1

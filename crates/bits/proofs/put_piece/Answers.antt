@@ -21,19 +21,19 @@ nonzero_rem-out c =
 
 pub overflow_add-out : goal.overflow_add-out
 overflow_add-out c =
-    let byte_small : c.long.result < 256 = omega (arith, c.long.ensures, c.slice_known-2-1.given (c.args.at / 8)) in
+    let byte_small : c.from.result < 256 = omega (arith, c.from.ensures, c.slice_known-2-1.given (c.args.at / 8)) in
     let a = c.args in
-    omega (arith, joined_small a.out.now a.at a.width a.bits c.long.result c.long.ensures (byte_small) (omega arith))
+    omega (arith, joined_small a.out.now a.at a.width a.bits c.from.result c.from.ensures (byte_small) (omega arith))
 
 pub overflow_cast-out-4 : goal.overflow_cast-out-4
 overflow_cast-out-4 c =
-    let byte_small : c.long.result < 256 = omega (arith, c.long.ensures, c.slice_known-2-1.given (c.args.at / 8)) in
+    let byte_small : c.from.result < 256 = omega (arith, c.from.ensures, c.slice_known-2-1.given (c.args.at / 8)) in
     let a = c.args in
-    omega (arith, stored_small a.out.now a.at a.width a.bits c.long.result c.long.ensures (byte_small) (omega arith))
+    omega (arith, stored_small a.out.now a.at a.width a.bits c.from.result c.from.ensures (byte_small) (omega arith))
 
 pub returns : goal.returns
 returns c =
-    let byte_small : c.long.result < 256 = omega (arith, c.long.ensures, c.slice_known-2-1.given (c.args.at / 8)) in
+    let byte_small : c.from.result < 256 = omega (arith, c.from.ensures, c.slice_known-2-1.given (c.args.at / 8)) in
     let a = c.args in
-    rw (stored a.out.now a.at a.width a.bits c.long.result c.long.ensures (byte_small) (omega arith))
+    rw (stored a.out.now a.at a.width a.bits c.from.result c.from.ensures (byte_small) (omega arith))
     (put_is a.out.now a.at a.width a.bits (omega arith) (omega arith) (omega arith))

@@ -1,16 +1,9 @@
--- `checking::some_out_of_order` meets its contract. The loop's invariant: the flag says whether some index below `i` is out of order, and `previous` is
+-- `checking::some_out_of_order` meets its contract. The loop's invariant: `found` says whether some index below the run's is out of order, and `previous` is
 -- the end before it.
-use Prim.Native.Nat.{◌-◌, ◌≤◌}
-use mathlib.Core.Path.{◌≡◌}
-use lib.ListN.{length}
+use Rattle.std.proofs.Common.{◌≡◌}
 use Rattle.base.specs.Lowest.{some_below}
-use Rattle.checking.proofs.OrderLaws.{end_before, out_of_order_in}
+use Rattle.schedule.specs.RunCheck.{previous_end, out_of_order}
 use Rattle.checking.proofs.some_out_of_order.Given as goal
 
-abbrev pub invariant-loop-i : goal.invariant-loop-i
-invariant-loop-i l =
-    (l.i ≤ length l.starts) × (l.found ≡ some_below (out_of_order_in l.starts l.ends) l.i) × (l.previous ≡ end_before l.ends l.i)
-
-abbrev pub decreases-loop-i : goal.decreases-loop-i
-decreases-loop-i l =
-    length l.starts - l.i
+abbrev pub invariant-loop-run : goal.invariant-loop-run
+invariant-loop-run l = (l.found ≡ some_below (out_of_order l.runs) l.run-index) × (l.previous ≡ previous_end l.runs l.run-index)

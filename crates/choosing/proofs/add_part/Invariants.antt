@@ -4,8 +4,4 @@ use Rattle.choosing.proofs.add_part.Given as goal
 
 abbrev pub invariant-loop-v : goal.invariant-loop-v
 invariant-loop-v l =
-    PutAbove l.optional l.top l.v l.initial.row l.row
-
-abbrev pub decreases-loop-v : goal.decreases-loop-v
-decreases-loop-v l =
-    l.v
+    PutAbove l.optional l.top l.v l.fn.row l.row

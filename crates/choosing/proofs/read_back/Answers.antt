@@ -1,12 +1,17 @@
-use mathlib.Core.Path.{◌∙◌}
+use mathlib.Core.Path.{ap, ◌∙◌}
+use mathlib.Core.List.{List}
 use native.Mathlib.Omega.{arith}
 use Rattle.choice.proofs.BackLaws.{walked_start, walked_decision, walked_kept, walked_discarded, walked_end}
+use Rattle.schedule.specs.declared.Job.{Job}
+use Rattle.schedule.specs.JobArrays.{no_job}
+use Rattle.choice.specs.Decisions.{back_of}
+use Rattle.choice.proofs.JobLists.{places_whole}
 use Rattle.choosing.proofs.read_back.Goals.{else-keep, then-keep}
 use Rattle.choosing.proofs.read_back.Goals as goal
 
 pub loop-i-init : goal.loop-i-init
 loop-i-init c =
-    walked_start _ _ _ _ _ c.requires.most_le_count c.requires.most_bound
+    walked_start _ _ _ _ _ c.requires.most_le_count (rw (places_whole no_job c.args.jobs.now) c.requires.most_bound)
 
 pub overflow_sub-left : goal.overflow_sub-left
 overflow_sub-left c =
@@ -26,3 +31,4 @@ loop-i-preserved c =
 pub returns : goal.returns
 returns c =
     walked_end _ _ _ _ _ _ _ _ c.requires.count_le_max_tasks c.loop-i.invariant (omega arith)
+    ∙ ap (λ (jobs : List Job). back_of jobs c.args.most) (places_whole no_job c.args.jobs.now)

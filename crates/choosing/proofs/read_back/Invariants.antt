@@ -1,6 +1,5 @@
 -- `choosing::read_back` meets its contract: the jobs are walked over from the outermost inwards.
-use Prim.Native.Nat.{◌-◌}
-use lib.ListN.{get_or}
+use lib.ListN.{length, get_or}
 use Rattle.base.specs.Arrays.{first_places}
 use Rattle.schedule.specs.JobArrays.{no_job}
 use Rattle.choice.specs.Choice.{count_one}
@@ -10,8 +9,4 @@ use Rattle.choosing.proofs.read_back.Given as goal
 
 abbrev pub invariant-loop-i : goal.invariant-loop-i
 invariant-loop-i l =
-    Walked count_one (λ k. get_or l.jobs k no_job) l.count l.count (back_of (first_places no_job l.jobs l.count) l.most) l.i l.left l.keeps
-
-abbrev pub decreases-loop-i : goal.decreases-loop-i
-decreases-loop-i l =
-    l.count - l.i
+    Walked count_one (λ k. get_or l.jobs k no_job) (length l.jobs) (length l.jobs) (back_of (first_places no_job l.jobs (length l.jobs)) l.most) l.i l.left l.keeps

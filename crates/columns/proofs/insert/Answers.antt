@@ -1,6 +1,7 @@
 use native.Mathlib.Omega.{arith}
 use lib.ListN.{length-set}
 use mathlib.Core.Path.{◌≡◌, ◌∙◌}
+use Prim.Native.Nat.{◌+◌, ◌-◌}
 use Rattle.columns.proofs.ColumnLaws.{moved_start, moved_next, moved_end}
 use Rattle.columns.proofs.insert.Goals as goal
 
@@ -10,11 +11,8 @@ loop-k-init c =
 
 pub loop-k-preserved : goal.loop-k-preserved
 loop-k-preserved c =
-    (omega arith, omega arith, moved_next _ _ _ _ (omega arith) c.loop-k.invariant.1 c.requires.end_in_bounds c.loop-k.invariant.2)
-
-pub shape_of-column : goal.shape_of-column
-shape_of-column c =
-    length-set c.loop-k.column c.args.at c.args.number ∙ c.loop-k.invariant.2.same_length
+    let here : c.loop-k.k - 1 + 1 ≡ c.loop-k.k = omega arith in
+    (omega arith, omega arith, rw here (moved_next _ _ _ _ (omega arith) c.loop-k.invariant.1 c.requires.end_in_bounds c.loop-k.invariant.2))
 
 pub returns : goal.returns
 returns c =

@@ -6,7 +6,3 @@ use Rattle.columns.proofs.insert.Given as goal
 abbrev pub invariant-loop-k : goal.invariant-loop-k
 invariant-loop-k l =
     (l.at ≤ l.k) × (l.k ≤ l.end) × Moved l.initial.column l.k l.end l.column
-
-abbrev pub decreases-loop-k : goal.decreases-loop-k
-decreases-loop-k l =
-    l.k

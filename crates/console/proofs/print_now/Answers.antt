@@ -72,6 +72,7 @@ put_now-requires c =
         length-take-le _ _ in-lists.starts_there ∙ sym (length-take-le _ _ in-lists.ends_there),
         length-take-le _ _ in-lists.starts_there ∙ sym (length-take-le _ _ in-lists.tasks_there),
       );
+      room = omega (arith, length-take-le _ _ in-lists.starts_there, in-lists.starts_there);
       span_in_bounds = rw (text-is) (omega (arith, now_length c.args.launch c.args.tick c.args.span c.args.file.now, c.if-out-lt-MAX_TEXT.false));
     }
 

@@ -1,5 +1,4 @@
 -- `conversion::put_tasks` meets its contract. The loop's invariant: what is left is the lines of the tasks from position i on.
-use Prim.Native.Nat.{◌-◌, ◌≤◌}
 use Rattle.base.specs.Places.{places}
 use Rattle.table_text.specs.TableText.{row_lines}
 use Rattle.lines.proofs.PutLaws.{Putting}
@@ -9,9 +8,5 @@ use Rattle.conversion.proofs.put_tasks.Given as goal
 
 abbrev pub invariant-loop-i : goal.invariant-loop-i
 invariant-loop-i l =
-    (l.i ≤ l.weighted.table.count)
-    × Putting (row_lines (places (shown_row l.width l.weighted) l.weighted.table.count)) l.at l.initial.out (tasks_left (shown_row l.width l.weighted) l.weighted.table.count l.i) l.next l.out
-
-abbrev pub decreases-loop-i : goal.decreases-loop-i
-decreases-loop-i l =
-    l.weighted.table.count - l.i
+    Putting (row_lines (places (shown_row l.width l.weighted) l.weighted.table.count)) l.at l.initial.out
+    (tasks_left (shown_row l.width l.weighted) l.weighted.table.count l.i) l.next l.out

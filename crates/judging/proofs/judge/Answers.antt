@@ -6,8 +6,8 @@ use Rattle.schedule.proofs.VerdictLaws.{sound_of}
 use Rattle.judging.proofs.ReadingLaws.{reads_legal, reads_judged, plain_reads}
 use Rattle.judging.proofs.judge.Goals as goal
 
-pub judge_records-requires : goal.judge_records-requires
-judge_records-requires c =
+pub judge_reading-requires : goal.judge_reading-requires
+judge_reading-requires c =
     let file = c.args.file.now in
     reads_legal (plain_read file) c.read.result (plain_reads file c.read.result c.read.ensures.reply) (read_legal file)
 
@@ -16,6 +16,6 @@ returns c =
     let file = c.args.file.now in
     let read = c.read.result in
     let is =
-    c.judge_records.ensures
+    c.judge_reading.ensures
     ∙ reads_judged (plain_read file) read (plain_reads file read c.read.ensures.reply) c.args.launch c.args.marks.now c.args.runs.now in
     record { reply = is; sound = sound_of c.args.launch (plain_read file) c.args.marks.now c.args.runs.now _ is }

@@ -1,15 +1,11 @@
-use Prim.Native.Nat.{ℕ, ◌^◌, ◌<◌}
-use mathlib.Core.Path.{◌≡◌, refl, ◌∙◌, sym}
-use mathlib.Core.Bool.{true, false}
-use native.Mathlib.Omega.{arith}
+use Rattle.std.proofs.Common.{◌≡◌, ◌<◌, ◌^◌, sym, ◌∙◌, ℕ, Bool, true, get_or, arith}
 use borrow.Author.Tests.{ltb-true}
 use lib.Dec.{leb, ltb}
-use lib.ListN.{get_or}
 use Rattle.base.specs.Tests.{and}
-use Rattle.base.proofs.TestLaws.{both_absurd, and_left}
+use Rattle.base.proofs.TestLaws.{and_left}
 use Rattle.schedule.specs.declared.Job.{Job}
 use Rattle.schedule.specs.JobArrays.{no_job}
-use Rattle.schedule.specs.Runs.{run_at_index, runs_of}
+use Rattle.schedule.specs.Runs.{no_run}
 use Rattle.schedule.specs.Passing.{run_fits}
 use Rattle.schedule.proofs.PassLaws.{passed_start, passed_task, passed_run, passed_step, passed_all, passed_totals}
 use Rattle.judging.proofs.pass_runs.Goals as goal
@@ -20,52 +16,36 @@ unfolding run_fits
 run_in job from start end e =
     ltb-true start end (and_left (ltb start end) (and (leb from start) (and (leb job.release start) (leb end job.deadline))) e)
 
-pub loop-i-init : goal.loop-i-init
-loop-i-init c =
-    passed_start _ _ _ _
+-- whether a run fits its job, where the job is the one that stands at its task
+fits_there : (job there : Job) (from start end : ℕ) (said value : Bool) → job ≡ there → said ≡ run_fits job from start end → said ≡ value
+    → run_fits there from start end ≡ value
+fits_there job there from start end said value j e v = rw (← j) (sym e ∙ v)
 
-pub returns-then-count-task : goal.returns-then-count-task
-unfolding run_at_index runs_of
-returns-then-count-task c =
-    (passed_task _ _ _ _ _ _ _ c.loop-i.invariant (omega arith) c.if-count-task.true, λ e k l. both_absurd false e refl)
+pub loop-run-init : goal.loop-run-init
+loop-run-init c = passed_start _ _ _
 
-pub overflow_cast-k : goal.overflow_cast-k
-overflow_cast-k c =
-    omega (arith, c.shared_slice_known-in-loop-i-1.given c.loop-i.i)
+pub returns-in_err-job : goal.returns-in_err-job
+returns-in_err-job c =
+    rw c.from_residual.ensures (passed_task _ _ _ _ _ _ c.loop-run.invariant (omega arith) c.in_err-job.ensures.lookup.3)
 
 pub returns-then-not-run_fits : goal.returns-then-not-run_fits
-unfolding run_at_index runs_of
-returns-then-not-run_fits c = (
-  passed_run _ _ _ _ _ _ _ c.loop-i.invariant (omega arith) c.if-count-task.false (sym c.run_fits.ensures ∙ c.if-not-run_fits.true),
-  λ e k l. both_absurd false e refl,
-)
+returns-then-not-run_fits c =
+    let known = c.in_ok-job.ensures.lookup.3 in
+    passed_run _ _ _ _ _ _ c.loop-run.invariant (omega arith) known.0
+    (fits_there _ _ _ _ _ _ _ (known.1 no_job) c.run_fits.ensures c.if-not-run_fits.true)
 
-pub overflow_sub-totals : goal.overflow_sub-totals
-overflow_sub-totals c =
-    let fitting : run_fits (get_or c.args.jobs (get_or c.args.tasks.now c.loop-i.i 0) no_job) c.loop-i.from (get_or c.args.starts.now c.loop-i.i 0) (get_or c.args.ends.now c.loop-i.i 0) ≡ true = sym c.run_fits.ensures ∙ c.if-not-run_fits.false in
-    let ordered : get_or c.args.starts.now c.loop-i.i 0 < get_or c.args.ends.now c.loop-i.i 0 = run_in _ _ _ _ (fitting) in
-    omega (arith, ordered)
+pub overflow_sub-run : goal.overflow_sub-run
+overflow_sub-run c =
+    let nonempty = run_in _ _ _ _ (sym c.run_fits.ensures ∙ c.if-not-run_fits.false) in omega arith
 
-pub overflow_cast-totals : goal.overflow_cast-totals
-overflow_cast-totals c =
-    let small : get_or c.args.ends.now c.loop-i.i 0 < 2 ^ 32 = omega (arith, c.shared_slice_known-in-loop-i-3-1.given c.loop-i.i) in
-    omega (arith, small)
-
-pub overflow_add-totals : goal.overflow_add-totals
-overflow_add-totals c =
-    let small : get_or c.args.ends.now c.loop-i.i 0 < 2 ^ 32 = omega (arith, c.shared_slice_known-in-loop-i-3-1.given c.loop-i.i) in
-    omega (arith, small, c.loop-i.invariant.small (get_or c.args.tasks.now c.loop-i.i 0))
-
-pub loop-i-preserved : goal.loop-i-preserved
-unfolding run_at_index
-loop-i-preserved c =
-    let fitting : run_fits (get_or c.args.jobs (get_or c.args.tasks.now c.loop-i.i 0) no_job) c.loop-i.from (get_or c.args.starts.now c.loop-i.i 0) (get_or c.args.ends.now c.loop-i.i 0) ≡ true = sym c.run_fits.ensures ∙ c.if-not-run_fits.false in
-    let small : get_or c.args.ends.now c.loop-i.i 0 < 2 ^ 32 = omega (arith, c.shared_slice_known-in-loop-i-3-1.given c.loop-i.i) in
-    passed_step _ _ _ _ _ _ _ c.loop-i.invariant (omega arith) c.if-count-task.false c.requires.count_le_max_tasks (fitting) (small)
+pub loop-run-preserved : goal.loop-run-preserved
+loop-run-preserved c =
+    let known = c.in_ok-job.ensures.lookup.3 in
+    let run = get_or c.args.runs.now c.loop-run.run-index no_run in
+    let small : run.end < 2 ^ 32 = omega arith in
+    rw c.from.ensures
+    (passed_step _ _ _ _ _ _ c.loop-run.invariant (omega arith) known.0 c.requires.jobs_len
+    (fits_there _ _ _ _ _ _ _ (known.1 no_job) c.run_fits.ensures c.if-not-run_fits.false) small)
 
 pub returns : goal.returns
-unfolding runs_of
-returns c = (
-  passed_all _ _ _ _ _ _ _ c.loop-i.invariant (omega arith),
-  λ e. passed_totals _ _ _ _ _ _ _ c.loop-i.invariant (omega arith),
-)
+returns c = (passed_all _ _ _ _ _ _ c.loop-run.invariant (omega arith), passed_totals _ _ _ _ _ _ c.loop-run.invariant (omega arith))

@@ -1,15 +1,17 @@
 -- `judging::verdict_of` meets its contract.
-use mathlib.Core.Path.{◌∙◌, sym}
-use lib.ListN.{get_or}
+use Rattle.std.proofs.Common.{◌∙◌, get_or, arith, length}
 use Rattle.schedule.specs.JobArrays.{no_job}
 use Rattle.schedule.proofs.VerdictLaws.{pass_fails, pass_totals}
+use Rattle.judging.proofs.ListLaws.{exact_is}
 use Rattle.judging.proofs.verdict_of.Goals as goal
 
-pub returns-then-not-fits : goal.returns-then-not-fits
-returns-then-not-fits c =
-    pass_fails _ _ _ _ (sym c.pass_runs-pass.ensures.0 ∙ c.if-not-fits.true)
+pub returns-in-None : goal.returns-in-None
+returns-in-None c = pass_fails _ _ _ _ c.in-None.ensures
 
-pub returns : goal.returns
-returns c =
-    let ok = c.if-not-fits.false in
-    c.totals_exact.ensures ∙ pass_totals (λ k. get_or c.args.jobs k no_job) c.args.count _ _ c.pass_runs-pass.result.totals (sym c.pass_runs-pass.ensures.0 ∙ ok) c.requires.count_le_max_tasks (c.pass_runs-pass.ensures.1 ok)
+pub returns-in-Some : goal.returns-in-Some
+returns-in-Some c =
+    let jobs = c.args.jobs.now in
+    let passed = c.in-Some.ensures in
+    c.totals_exact.ensures
+    ∙ (exact_is jobs c.args.marks.now c.requires.marks_len c.in-Some.totals (omega arith)
+    ∙ pass_totals (λ k. get_or jobs k no_job) (length jobs) _ _ c.in-Some.totals passed.0 c.requires.jobs_len passed.1)

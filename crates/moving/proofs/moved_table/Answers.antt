@@ -1,31 +1,32 @@
-use mathlib.Core.Path.{◌∙◌, ap}
-use native.Mathlib.Omega.{arith}
-use lib.IntN.{ℤ}
-use Rattle.table.specs.Tables.{task_at}
-use Rattle.table.specs.Moving.{moved_outside, moved_table}
-use Rattle.base.proofs.ArrayFilling.{filled_start, filled_set}
-use Rattle.moving.proofs.ShiftLaws.{as_passed}
-use Rattle.moving.proofs.MoveLaws.{none_outside, moved_filled}
+use Rattle.std.proofs.Common.{ap, ◌∙◌, arith}
+use lib.Seq.{get_or-take}
+use Rattle.table.specs.Tables.{no_task, task_at}
+use Rattle.moving.specs.Moved.{task_as}
+use Rattle.moving.proofs.MoveLaws.{as_passed, moved_none, moved_refused, moved_more, moved_all}
 use Rattle.moving.proofs.moved_table.Goals as goal
 
-pub loop-i-init : goal.loop-i-init
-loop-i-init c =
-    (omega arith, filled_start _ _ _ _)
+pub loop-k-init : goal.loop-k-init
+loop-k-init c =
+    moved_none _ _
 
-pub moved_task-requires : goal.moved_task-requires
+pub returns-in-None : goal.returns-in-None
 unfolding task_at
-moved_task-requires c =
+returns-in-None c =
     let t = c.args.table in
-    ap (λ (z : ℤ). moved_outside z (task_at t c.loop-i.i)) (as_passed c.ranges.shift)
-    ∙ none_outside c.args.shift t c.loop-i.i c.requires.table_value (omega arith)
+    let here = get_or-take t.count t.tasks c.loop-k.k no_task (omega arith) in
+    let shift = as_passed c.ranges.shift in
+    let held = rw shift at c.loop-k.invariant in
+    let told = rw shift at c.in-None.ensures in
+    moved_refused _ _ _ _ (omega arith) held (told ∙ ap (task_as _) here)
 
-pub loop-i-preserved : goal.loop-i-preserved
+pub loop-k-preserved : goal.loop-k-preserved
 unfolding task_at
-loop-i-preserved c =
-    (omega arith, filled_set _ _ _ _ _ _ _ (omega arith) (omega arith) c.moved_task.ensures c.loop-i.invariant.1)
+loop-k-preserved c =
+    let t = c.args.table in
+    let here = get_or-take t.count t.tasks c.loop-k.k no_task (omega arith) in
+    moved_more _ _ _ _ _ (omega arith) (omega arith) c.loop-k.invariant (c.in-Some.ensures ∙ ap (task_as _) here)
 
 pub returns : goal.returns
 returns c =
-    let t = c.args.table in
-    moved_filled _ t _ _ _ (omega arith) c.loop-i.invariant.1 c.of_places.ensures.0 c.of_places.ensures.1 c.of_places.ensures.2 c.of_places.ensures.3
-    ∙ ap (λ (z : ℤ). moved_table z t) (as_passed c.ranges.shift)
+    let held = rw (as_passed c.ranges.shift) at c.loop-k.invariant in
+    moved_all _ _ _ _ (omega arith) held

@@ -61,11 +61,12 @@ bounds-starts-k c =
     let at_gap : c.gap_ticks-n.result ≡ min c.loop-k.left (c.loop-k.top - (run_at_index c.loop-k.starts c.loop-k.ends c.loop-k.tasks (c.loop-k.k - 1)).end) = c.gap_ticks-n.ensures in
     let at-run : let now = run_at_index c.if-n-gt0.starts c.if-n-gt0.ends c.if-n-gt0.tasks in Room c.if-n-gt0.starts c.if-n-gt0.ends c.if-n-gt0.tasks × Passed (run_at_index c.args.starts.now c.args.ends.now c.args.tasks.now) c.args.span c.args.job c.args.work now (c.loop-k.k - 1) c.if-n-gt0.end (now (c.loop-k.k - 1)).start (c.loop-k.left - c.gap_ticks-n.result) =
     let held = c.requires.held in
+    let next : c.loop-k.k - 1 + 1 ≡ c.loop-k.k = omega arith in
     let more : c.args.span.closed < c.loop-k.k = omega arith in
     elim c.if-n-gt0.branch [
       | then-n-gt0 w ↦ let kept = w.insert_run.auto in
           rw (w.starts-is, w.ends-is, w.tasks-is, w.end-is)
-          ((omega arith, omega arith, omega arith), passed-some _ _ _ _ held _ _ _ _ _ _ more c.loop-k.invariant.1 (at_gap) _ w.if-n-gt0.true w.insert_run.ensures)
+          ((omega arith, omega arith, omega arith), passed-some _ _ _ _ held _ _ _ _ _ _ more c.loop-k.invariant.1 (at_gap) _ w.if-n-gt0.true (rw next at w.insert_run.ensures))
       | else-n-gt0 w ↦ rw (w.starts-is, w.ends-is, w.tasks-is, w.end-is) (c.loop-k.invariant.0, passed_none _ _ _ _ held _ _ _ _ _ _ more c.loop-k.invariant.1 (at_gap) w.if-n-gt0.false)
     ] in
     omega (arith, span-within, (at-run).0)
@@ -76,11 +77,12 @@ loop-k-preserved c =
     let at_gap : c.gap_ticks-n.result ≡ min c.loop-k.left (c.loop-k.top - (run_at_index c.loop-k.starts c.loop-k.ends c.loop-k.tasks (c.loop-k.k - 1)).end) = c.gap_ticks-n.ensures in
     let at-run : let now = run_at_index c.if-n-gt0.starts c.if-n-gt0.ends c.if-n-gt0.tasks in Room c.if-n-gt0.starts c.if-n-gt0.ends c.if-n-gt0.tasks × Passed (run_at_index c.args.starts.now c.args.ends.now c.args.tasks.now) c.args.span c.args.job c.args.work now (c.loop-k.k - 1) c.if-n-gt0.end (now (c.loop-k.k - 1)).start (c.loop-k.left - c.gap_ticks-n.result) =
     let held = c.requires.held in
+    let next : c.loop-k.k - 1 + 1 ≡ c.loop-k.k = omega arith in
     let more : c.args.span.closed < c.loop-k.k = omega arith in
     elim c.if-n-gt0.branch [
       | then-n-gt0 w ↦ let kept = w.insert_run.auto in
           rw (w.starts-is, w.ends-is, w.tasks-is, w.end-is)
-          ((omega arith, omega arith, omega arith), passed-some _ _ _ _ held _ _ _ _ _ _ more c.loop-k.invariant.1 (at_gap) _ w.if-n-gt0.true w.insert_run.ensures)
+          ((omega arith, omega arith, omega arith), passed-some _ _ _ _ held _ _ _ _ _ _ more c.loop-k.invariant.1 (at_gap) _ w.if-n-gt0.true (rw next at w.insert_run.ensures))
       | else-n-gt0 w ↦ rw (w.starts-is, w.ends-is, w.tasks-is, w.end-is) (c.loop-k.invariant.0, passed_none _ _ _ _ held _ _ _ _ _ _ more c.loop-k.invariant.1 (at_gap) w.if-n-gt0.false)
     ] in
     at-run

@@ -6,8 +6,4 @@ use Rattle.placing.proofs.fill_gaps.Given as goal
 
 abbrev pub invariant-loop-k : goal.invariant-loop-k
 invariant-loop-k l =
-    Room l.starts l.ends l.tasks × Passed (run_at_index l.initial.starts l.initial.ends l.initial.tasks) l.span l.job l.work (run_at_index l.starts l.ends l.tasks) l.k l.end l.top l.left
-
-abbrev pub decreases-loop-k : goal.decreases-loop-k
-decreases-loop-k l =
-    l.k
+    Room l.starts l.ends l.tasks × Passed (run_at_index l.initial.starts l.initial.ends l.initial.tasks) l.fn.span l.job l.work (run_at_index l.starts l.ends l.tasks) l.k l.end l.top l.left

@@ -2,6 +2,7 @@
 -- and more below them.
 use Prim.Native.Nat.{◌≤◌}
 use mathlib.Core.Path.{◌≡◌}
+use lib.ListN.{length}
 use Rattle.base.specs.Limits.{max_tasks}
 use Rattle.schedule.specs.Runs.{run_at_index}
 use Rattle.placement.specs.HeldRuns.{runs_down, Held, Room}
@@ -10,13 +11,9 @@ use Rattle.placing.proofs.place.Given as goal
 
 abbrev pub invariant-loop-i : goal.invariant-loop-i
 invariant-loop-i l =
-    (l.i ≤ l.count)
+    (l.i ≤ length l.jobs)
     × (l.i ≤ l.span.first)
     × (l.span.first ≤ max_tasks)
     × Room l.held_starts l.held_ends l.held_tasks
     × Held l.span (run_at_index l.held_starts l.held_ends l.held_tasks)
-    × (runs_down (run_at_index l.held_starts l.held_ends l.held_tasks) l.span.first l.span.end ≡ runs_from l.jobs (work_at l.jobs l.keeps l.count) l.count l.i)
-
-abbrev pub decreases-loop-i : goal.decreases-loop-i
-decreases-loop-i l =
-    l.i
+    × (runs_down (run_at_index l.held_starts l.held_ends l.held_tasks) l.span.first l.span.end ≡ runs_from l.jobs (work_at l.jobs l.keeps (length l.jobs)) (length l.jobs) l.i)

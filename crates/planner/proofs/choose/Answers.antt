@@ -6,19 +6,19 @@ use Rattle.planner.proofs.choose.Goals as goal
 pub choose-requires : goal.choose-requires
 unfolding fits_by
 choose-requires c =
-    record { count_le_max_tasks = c.requires.held_jobs.few; all_bounded = c.requires.held_jobs.bounded; count_value = rw c.if-nested.true at c.requires.count_value }
+    record { count_le_max_tasks = c.requires.held_jobs.few; all_bounded = c.requires.held_jobs.bounded; count_value = rw c.in-Nested.is at c.requires.none_value }
 
-pub returns-then-nested : goal.returns-then-nested
+pub returns-in-Nested : goal.returns-in-Nested
 unfolding chosen_by
-returns-then-nested c =
-    rw c.if-nested.true c.choose.ensures
+returns-in-Nested c =
+    rw c.in-Nested.is c.choose.ensures
 
-pub choose-requires-2 : goal.choose-requires-2
+pub choose-requires-in-Similar : goal.choose-requires-in-Similar
 unfolding fits_by
-choose-requires-2 c =
-    record { count_le_max_tasks = c.requires.held_jobs.few; all_bounded = c.requires.held_jobs.bounded; count_value = rw c.if-nested.false at c.requires.count_value }
+choose-requires-in-Similar c =
+    record { count_le_max_tasks = c.requires.held_jobs.few; all_bounded = c.requires.held_jobs.bounded; count_value = rw c.in-Similar.is at c.requires.none_value }
 
-pub returns : goal.returns
+pub returns-in-Similar : goal.returns-in-Similar
 unfolding chosen_by
-returns c =
-    rw c.if-nested.false c.choose-2.ensures
+returns-in-Similar c =
+    rw c.in-Similar.is c.choose-in-Similar.ensures

@@ -1,28 +1,26 @@
--- `reading::answer` meets its contract: the header's answer, else the windows'.
-use mathlib.Core.Path.{◌≡◌, ◌∙◌, sym, ap}
-use Rattle.table.specs.declared.Answer.TheVariants.{Accepted}
-use Rattle.table.specs.Answers.{is_accepted}
-use Rattle.table.specs.Reading.{head_answer}
-use Rattle.table.proofs.AnswerLaws.{told_refused}
-use Rattle.reading.proofs.ReadLaws.{head_refused, head_accepted, head_few, head_bits_lem}
+-- `reading::answer` meets its contract: the header's refusal, and past it what the windows answer.
+use Rattle.std.proofs.Common.{sym}
+use Rattle.table.specs.Reading.{read_answer}
+use Rattle.table.proofs.AnswerLaws.{question_answers, first_refuses, first_accepts}
+use Rattle.reading.proofs.ReadLaws.{head_few}
 use Rattle.reading.proofs.answer.Goals as goal
 
-pub returns-in_default : goal.returns-in_default
-returns-in_default c =
-    let head = c.head_answer-head.ensures in
-    head ∙ head_refused _ (ap is_accepted (sym head) ∙ told_refused c.head_answer-head.result c.in_default.not-Accepted)
-
-pub take_header-header-requires : goal.take_header-header-requires
-take_header-header-requires c =
-    let accepted : head_answer c.args.file.now ≡ Accepted = sym c.head_answer-head.ensures ∙ c.in-Accepted.is in
-    head_bits_lem _ (accepted)
+pub returns-in_err-header-clause-answer : goal.returns-in_err-header-clause-answer
+unfolding read_answer
+returns-in_err-header-clause-answer c =
+    question_answers _ _ _ c.from_residual.ensures.1 (first_refuses _ _ _ c.in_err-header.ensures.answer)
 
 pub windows_in-requires : goal.windows_in-requires
 windows_in-requires c =
-    let accepted : head_answer c.args.file.now ≡ Accepted = sym c.head_answer-head.ensures ∙ c.in-Accepted.is in
-    record { header_of = c.take_header-header.ensures; file_bound = (head_few _ (accepted)).0; file_bound_2 = (head_few _ (accepted)).1 }
+    let few = head_few _ (sym c.in_ok-header.ensures.answer) in
+    record { header_of = c.in_ok-header.ensures.header; file_bound = few.0; file_bound_2 = few.1 }
 
-pub returns : goal.returns
-returns c =
-    let accepted : head_answer c.args.file.now ≡ Accepted = sym c.head_answer-head.ensures ∙ c.in-Accepted.is in
-    c.windows_in.ensures ∙ head_accepted _ (accepted)
+pub returns-in_err-windows_in-clause-answer : goal.returns-in_err-windows_in-clause-answer
+unfolding read_answer
+returns-in_err-windows_in-clause-answer c =
+    question_answers _ _ _ c.from_residual-in_err-windows_in.ensures.1 (first_accepts _ _ _ (sym c.in_ok-header.ensures.answer) c.in_err-windows_in.ensures)
+
+pub returns-clause-answer : goal.returns-clause-answer
+unfolding read_answer
+returns-clause-answer c =
+    first_accepts _ _ _ (sym c.in_ok-header.ensures.answer) c.in_ok-windows_in.ensures

@@ -2,10 +2,6 @@
 use Rattle.reading.proofs.FrontLaws.{under_four}
 use Rattle.reading.proofs.front_answer.Goals as goal
 
-pub returns-then-length-lt4 : goal.returns-then-length-lt4
-returns-then-length-lt4 c =
+pub returns-then-length-lt4-clause-answer : goal.returns-then-length-lt4-clause-answer
+returns-then-length-lt4-clause-answer c =
     under_four _ _ c.if-length-lt4.true
-
-pub returns : goal.returns
-returns c =
-    c.header_answer.ensures

@@ -2,7 +2,7 @@
 use Rattle.table.specs.Reading.{head_answer}
 use Rattle.reading.proofs.head_answer.Goals as goal
 
-pub returns : goal.returns
+pub returns-clause-answer : goal.returns-clause-answer
 unfolding head_answer
-returns c =
-    c.front_answer.ensures
+returns-clause-answer c =
+    c.front_answer.ensures.answer

@@ -1,6 +1,6 @@
 -- `reading::padding_set` meets its contract. A file of at most 64 rows has few bytes, and less than one byte of padding.
 use Prim.Native.Nat.{◌-◌, ◌*◌}
-use mathlib.Core.Path.{◌≡◌, refl}
+use mathlib.Core.Path.{◌≡◌}
 use native.Mathlib.Omega.{arith}
 use Rattle.bits.specs.Bits.{bytes_for, field, number}
 use Rattle.table.specs.Layout.{row_start, rows_length}
@@ -26,13 +26,6 @@ unfolding bytes_for
 overflow_sub-rest c =
     omega arith
 
-pub returns-then-rest-eq0 : goal.returns-then-rest-eq0
-unfolding padding_set field number
-returns-then-rest-eq0 c =
-    let a = c.args in
-    let none : 8 * rows_length a.width a.count - row_start a.width a.count ≡ 0 = omega (arith, c.requires.file_len) in
-    rw none refl
-
 pub overflow_cast-rest : goal.overflow_cast-rest
 unfolding bytes_for
 overflow_cast-rest c =
@@ -43,7 +36,14 @@ unfolding bytes_for
 piece-requires c =
     record { at_bound = omega arith; le_width = omega arith }
 
-pub returns : goal.returns
+pub returns-then-rest-ne0 : goal.returns-then-rest-ne0
 unfolding padding_set
-returns c =
+returns-then-rest-ne0 c =
     rw (c.piece.ensures, c.requires.file_len)
+
+pub returns-else-rest-ne0 : goal.returns-else-rest-ne0
+unfolding padding_set field number
+returns-else-rest-ne0 c =
+    let a = c.args in
+    let none : 8 * rows_length a.width a.count - row_start a.width a.count ≡ 0 = omega (arith, c.requires.file_len) in
+    rw (none, c.if-rest-ne0.false)

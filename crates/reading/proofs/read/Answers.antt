@@ -1,29 +1,20 @@
--- `reading::read` meets its contract: the answer, and the table where nothing is refused.
-use mathlib.Core.Path.{◌≡◌, ◌∙◌, sym, ap}
-use Rattle.table.specs.declared.Answer.TheVariants.{Accepted}
-use Rattle.table.specs.Answers.{is_accepted}
-use Rattle.table.specs.Reading.{read_answer}
-use Rattle.table.proofs.AnswerLaws.{told_refused}
-use Rattle.reading.proofs.ReadLaws.{head_bits_lem, read_head, table_refused, table_accepted, reply_is}
+-- `reading::read` meets its contract: the refusal, or the table where nothing is refused.
+use Rattle.std.proofs.Common.{sym}
+use Rattle.table.specs.Reading.{read_result}
+use Rattle.table.proofs.AnswerLaws.{question_returns, answered_ok, answered_err}
+use Rattle.reading.proofs.ReadLaws.{read_head}
 use Rattle.reading.proofs.read.Goals as goal
 
-pub returns-in_default : goal.returns-in_default
-returns-in_default c =
-    let answer = c.answer-answer.ensures in
-    let refused = ap is_accepted (sym answer) ∙ told_refused c.answer-answer.result c.in_default.not-Accepted in
-    record { reply = reply_is _ _ answer (c.none-table.ensures ∙ table_refused _ refused) }
+pub returns-in_err-header : goal.returns-in_err-header
+unfolding read_result
+returns-in_err-header c =
+    record { reply = question_returns _ _ _ c.from_residual.ensures.1 (answered_err _ _ _ c.in_err-header.ensures.answer) }
 
-pub take_header-header-requires : goal.take_header-header-requires
-take_header-header-requires c =
-    let accepted : read_answer c.args.file.now ≡ Accepted = sym c.answer-answer.ensures ∙ c.in-Accepted.is in
-    head_bits_lem _ (read_head _ (accepted))
-
-pub table_in-table-requires : goal.table_in-table-requires
-table_in-table-requires c =
-    let accepted : read_answer c.args.file.now ≡ Accepted = sym c.answer-answer.ensures ∙ c.in-Accepted.is in
-    record { header_of = c.take_header-header.ensures; file_value = read_head _ (accepted) }
+pub table_in-requires : goal.table_in-requires
+table_in-requires c =
+    record { header_of = c.in_ok-header.ensures.header; file_value = read_head _ (sym c.in_ok-header.ensures.answer) }
 
 pub returns : goal.returns
+unfolding read_result
 returns c =
-    let accepted : read_answer c.args.file.now ≡ Accepted = sym c.answer-answer.ensures ∙ c.in-Accepted.is in
-    record { reply = reply_is _ _ c.answer-answer.ensures (c.table_in-table.ensures ∙ table_accepted _ (accepted)) }
+    record { reply = answered_ok _ _ _ (sym c.in_ok-header.ensures.answer) c.table_in.ensures }

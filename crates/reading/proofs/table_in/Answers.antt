@@ -1,18 +1,38 @@
--- `reading::table_in` meets its contract.
-use mathlib.Core.Path.{ap, ◌∙◌}
-use native.Mathlib.Omega.{arith}
+use Rattle.std.proofs.Common.{ℕ, refl, ◌∙◌, ap, arith}
+use Rattle.base.proofs.ArrayFilling.{filled_start, filled_set, filled_whole}
 use Rattle.table.specs.Layout.{task_start}
+use Rattle.table.specs.Reading.{task_from, task_in}
 use Rattle.reading.proofs.ReadLaws.{head_few, table_taken}
 use Rattle.reading.proofs.table_in.Goals as goal
 
-pub take_tasks-tasks-requires : goal.take_tasks-tasks-requires
-take_tasks-tasks-requires c =
-    let header = c.requires.header_of in
+pub loop-k-init : goal.loop-k-init
+unfolding task_start
+loop-k-init c =
+    (omega arith, (refl, refl, refl), filled_start _ _ _ _)
+
+pub take_task-requires : goal.take_task-requires
+unfolding task_start
+take_task-requires c =
     let few = head_few _ c.requires.file_value in
-    record { count_le_max_tasks = omega (arith, header.0, few.0); count_bound = omega (arith, ap task_start header.0, few.1) }
+    let count = c.requires.header_of.0 in
+    record { task_width_bound = omega (arith, few.1, count); task_width_bound_2 = omega (arith, few.0, count) }
+
+pub bounds-table-k : goal.bounds-table-k
+bounds-table-k c =
+    omega (arith, (head_few _ c.requires.file_value).0, c.requires.header_of.0)
+
+pub loop-k-preserved : goal.loop-k-preserved
+unfolding task_start task_in
+loop-k-preserved c =
+    let l = c.loop-k in
+    let few = head_few _ c.requires.file_value in
+    let count = c.requires.header_of.0 in
+    let same = c.take_task.ensures.task ∙ ap (λ (start : ℕ). task_from c.args.file.now start) l.invariant.0 in
+    (omega arith, l.invariant.1, filled_set _ _ _ _ _ _ _ (omega (arith, few.0, count)) (omega arith) same l.invariant.2)
 
 pub returns : goal.returns
 returns c =
-    let h = c.requires.header_of in
-    let made = c.of_places.ensures in
-    table_taken _ _ _ h.0 made.0 (made.1 ∙ h.1) (made.2 ∙ h.2) (made.3 ∙ c.take_tasks-tasks.ensures)
+    let header = c.requires.header_of in
+    let l = c.loop-k in
+    let same = l.invariant.1 in
+    table_taken _ _ _ header.0 same.0 (same.1 ∙ header.1) (same.2 ∙ header.2) (filled_whole _ _ _ _ _ _ (λ k a b. omega arith) l.invariant.2)

@@ -11,8 +11,8 @@ returns-then-work-eq0 c =
 
 pub returns-then-end-job : goal.returns-then-end-job
 returns-then-end-job c =
-    omega (arith, ending_some huge_ticks c.args.job c.args.work c.args.time (omega arith) (omega (arith, c.raised.ensures)), c.raised.ensures)
+    omega (arith, ending_some huge_ticks c.args.job c.args.work c.args.time (omega arith) (omega (arith, c.max.ensures)), c.max.ensures)
 
-pub returns : goal.returns
-returns c =
-    sym (ending_late huge_ticks c.args.job c.args.work c.args.time (omega arith) (omega (arith, c.raised.ensures)))
+pub returns-else-end-job : goal.returns-else-end-job
+returns-else-end-job c =
+    sym (ending_late huge_ticks c.args.job c.args.work c.args.time (omega arith) (omega (arith, c.max.ensures)))

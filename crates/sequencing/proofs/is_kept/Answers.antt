@@ -1,5 +1,5 @@
 -- `sequencing::is_kept` meets its contract.
-use Prim.Native.Nat.{ℕ, ◌+◌, ◌-◌}
+use Prim.Native.Nat.{ℕ, ◌+◌}
 use mathlib.Core.Path.{sym, ap, ◌∙◌}
 use native.Mathlib.Omega.{arith}
 use lib.Dec.{leb}
@@ -14,11 +14,7 @@ pub returns-then-v-eq0 : goal.returns-then-v-eq0
 returns-then-v-eq0 c =
     sym (kept_first _ _ _ _ _ (omega arith) (omega arith))
 
-pub overflow_add-result : goal.overflow_add-result
-overflow_add-result c =
-    omega (arith, c.raised.ensures, c.requires.by_index (c.args.v - 1) (omega arith))
-
 pub returns : goal.returns
 returns c =
-    ap (λ (t : ℕ). leb (t + c.args.job.optional) c.args.limits.room) c.raised.ensures
+    ap (λ (t : ℕ). leb (t + c.args.job.optional) c.args.limits.room) c.max.ensures
     ∙ sym (kept_more c.args.job _ _ _ _ (omega arith) (omega arith))

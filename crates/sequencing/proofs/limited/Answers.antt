@@ -7,13 +7,13 @@ pub returns-then-end-limits : goal.returns-then-end-limits
 returns-then-end-limits c =
     omega (
       arith,
-      c.raised.ensures,
-      limited_in c.args.limits.from c.args.limits.room c.args.ticks c.args.time (omega (arith, c.raised.ensures)),
+      c.max.ensures,
+      limited_in c.args.limits.from c.args.limits.room c.args.ticks c.args.time (omega (arith, c.max.ensures)),
     )
 
-pub returns : goal.returns
-returns c =
+pub returns-else-end-limits : goal.returns-else-end-limits
+returns-else-end-limits c =
     omega (
       arith,
-      limited_over c.args.limits.from c.args.limits.room c.args.ticks c.args.time (omega (arith, c.raised.ensures)),
+      limited_over c.args.limits.from c.args.limits.room c.args.ticks c.args.time (omega (arith, c.max.ensures)),
     )

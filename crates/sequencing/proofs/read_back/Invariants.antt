@@ -1,6 +1,5 @@
 -- `sequencing::read_back` meets its contract: the jobs are walked over from the last in similar order to the first.
-use Prim.Native.Nat.{◌-◌}
-use lib.ListN.{get_or}
+use lib.ListN.{length, get_or}
 use Rattle.base.specs.Arrays.{first_places}
 use Rattle.schedule.specs.JobArrays.{no_job}
 use Rattle.sequence.specs.KeptRows.{marks_back}
@@ -9,8 +8,4 @@ use Rattle.sequencing.proofs.read_back.Given as goal
 
 abbrev pub invariant-loop-i : goal.invariant-loop-i
 invariant-loop-i l =
-    Walked (λ k. get_or l.jobs k no_job) l.count (marks_back (first_places no_job l.jobs l.count) l.most) l.i l.v l.left l.bound l.keeps
-
-abbrev pub decreases-loop-i : goal.decreases-loop-i
-decreases-loop-i l =
-    l.count - l.i
+    Walked (λ k. get_or l.jobs k no_job) (length l.jobs) (marks_back (first_places no_job l.jobs (length l.jobs)) l.most) l.i l.v l.left l.bound l.keeps

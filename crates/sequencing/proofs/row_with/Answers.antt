@@ -1,28 +1,12 @@
-use Prim.Native.Nat.{ℕ, ◌+◌, ◌≤◌}
+use Prim.Native.Nat.{ℕ, ◌+◌}
 use mathlib.Core.Path.{◌≡◌, refl, sym, ap, ◌∙◌}
 use native.Mathlib.Omega.{arith}
 use lib.ListN.{get_or}
-use Rattle.base.proofs.RewriteLaws.{rewritten_start, rewritten_next, written_next}
-use Rattle.choice.specs.Decisions.{row_places, huge_ticks}
+use Rattle.base.proofs.RewriteLaws.{rewritten_next, written_next}
+use Rattle.choice.specs.Decisions.{row_places}
 use Rattle.sequence.specs.KeptRows.{limited_end, numbers_from}
 use Rattle.sequence.proofs.BesideLaws.{with_first, with_made}
 use Rattle.sequencing.proofs.row_with.Goals as goal
-
-pub loop-v-init : goal.loop-v-init
-loop-v-init c =
-    (omega arith, rewritten_start _ _ _ _ _)
-
-pub limited-with-requires : goal.limited-with-requires
-limited-with-requires c =
-    let as_before : (k : ℕ) → get_or c.loop-v.rows (c.args.at + row_places + k) 0 ≡ get_or c.args.rows.now (c.args.at + row_places + k) 0 = λ k. c.loop-v.invariant.1.beyond (c.args.at + row_places + k) (omega (arith, c.requires.most_lt_row_places)) in
-    let small : (k : ℕ) → k ≤ c.args.most → get_or c.loop-v.rows (c.args.at + row_places + k) 0 ≤ huge_ticks = λ k l. rw (as_before k) (c.requires.by_index k l) in
-    (small c.loop-v.v (omega arith), c.requires.optional_le_max_ticks.1, c.requires.optional_le_max_ticks.0)
-
-pub limited-without-requires : goal.limited-without-requires
-limited-without-requires c =
-    let as_before : (k : ℕ) → get_or c.loop-v.rows (c.args.at + row_places + k) 0 ≡ get_or c.args.rows.now (c.args.at + row_places + k) 0 = λ k. c.loop-v.invariant.1.beyond (c.args.at + row_places + k) (omega (arith, c.requires.most_lt_row_places)) in
-    let small : (k : ℕ) → k ≤ c.args.most → get_or c.loop-v.rows (c.args.at + row_places + k) 0 ≤ huge_ticks = λ k l. rw (as_before k) (c.requires.by_index k l) in
-    (small (c.loop-v.v + 1) (omega arith), c.requires.optional_le_max_ticks.2, omega arith)
 
 pub loop-v-preserved : goal.loop-v-preserved
 loop-v-preserved c =
@@ -31,16 +15,8 @@ loop-v-preserved c =
     let before = numbers_from c.args.rows.now (c.args.at + row_places) in
     let with = c.limited-with.ensures ∙ ap (limited_end c.args.kept.from c.args.kept.room c.args.optional) (as_before v) in
     let without = c.limited-without.ensures ∙ ap (limited_end c.args.free.from c.args.free.room 0) (as_before (v + 1)) in
-    let made = with_made c.args.optional c.args.kept.from c.args.kept.room c.args.free.from c.args.free.room before v _ _ _ with without c.lesser.ensures in
+    let made = with_made c.args.optional c.args.kept.from c.args.kept.room c.args.free.from c.args.free.room before v _ _ _ with without c.min.ensures in
     (omega arith, written_next _ _ _ _ _ _ _ _ _ (omega arith) refl (omega (arith, c.loop-v.invariant.1.same_length)) made c.loop-v.invariant.1)
-
-pub limited-requires : goal.limited-requires
-limited-requires c =
-    let as_before : (k : ℕ) → get_or c.loop-v.rows (c.args.at + row_places + k) 0 ≡ get_or c.args.rows.now (c.args.at + row_places + k) 0 = λ k. c.loop-v.invariant.1.beyond (c.args.at + row_places + k) (omega (arith, c.requires.most_lt_row_places)) in
-    let small : (k : ℕ) → k ≤ c.args.most → get_or c.loop-v.rows (c.args.at + row_places + k) 0 ≤ huge_ticks = λ k l. rw (as_before k) (c.requires.by_index k l) in
-    let first : get_or c.loop-v.rows (c.args.at + row_places) 0 ≡ numbers_from c.loop-v.rows (c.args.at + row_places) 0 = let e : c.args.at + row_places ≡ c.args.at + row_places + 0 = omega arith in
-    ap (λ place. get_or c.loop-v.rows place 0) e in
-    (rw (first) (small 0 (omega arith)), c.requires.optional_le_max_ticks.2, omega arith)
 
 pub returns : goal.returns
 returns c =
@@ -52,7 +28,3 @@ returns c =
     let made = c.limited.ensures ∙ (ap (limited_end c.args.free.from c.args.free.room 0) (first ∙ as_before 0)
     ∙ sym (with_first c.args.optional c.args.kept.from c.args.kept.room c.args.free.from c.args.free.room before)) in
     rewritten_next _ _ _ _ _ _ _ _ _ (omega arith) (omega arith) (omega arith) (omega (arith, c.loop-v.invariant.1.same_length)) made (rw end at c.loop-v.invariant.1)
-
-pub shape_of-rows : goal.shape_of-rows
-shape_of-rows c =
-    (returns c).same_length

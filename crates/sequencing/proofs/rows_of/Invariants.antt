@@ -6,8 +6,4 @@ use Rattle.sequencing.proofs.rows_of.Given as goal
 
 abbrev pub invariant-loop-i : goal.invariant-loop-i
 invariant-loop-i l =
-    Built (length l.initial.rows) (λ k. get_or l.jobs k no_job) l.count l.i l.rows l.most l.mandatory
-
-abbrev pub decreases-loop-i : goal.decreases-loop-i
-decreases-loop-i l =
-    l.i
+    Built (length l.initial.rows) (λ k. get_or l.jobs k no_job) (length l.jobs) l.i l.rows l.most l.mandatory

@@ -1,31 +1,43 @@
-use mathlib.Core.Path.{ap, ◌∙◌}
+use mathlib.Core.Path.{◌∙◌}
 use native.Mathlib.Omega.{arith}
+use Rattle.std.proofs.lemmas.Result.{err_from_is_err_and}
 use Rattle.lines.specs.Text.{newline}
-use Rattle.text_reading.specs.declared.Scan.{Scan}
-use Rattle.text_reading.proofs.ScanSteps.{step_line, scan_start, scan_next, scan_end, text_refused, text-taken}
+use Rattle.text_reading.proofs.ScanSteps.{next_line, scan_start, scan_next, scan_wrong, first_wrong, second_wrong, text_taken}
 use Rattle.text_reading.proofs.ScanLaws.{scan_parsed}
 use Rattle.text_reading.proofs.scan_text.Goals as goal
 
-pub loop-i-init : goal.loop-i-init
-loop-i-init c =
+pub loop-byte-init : goal.loop-byte-init
+loop-byte-init c =
     scan_start _ _ _ c.new-scan.ensures
 
-pub loop-i-preserved : goal.loop-i-preserved
-loop-i-preserved c =
-    scan_next _ _ _ _ _ c.loop-i-test.true c.step-scan.ensures c.loop-i.invariant
+pub returns-in_err-scan : goal.returns-in_err-scan
+returns-in_err-scan c =
+    let p = err_from_is_err_and c.from_residual.result c.from_residual.ensures.1 in
+    rw (p.1, p.2)
+    (scan_wrong _ _ _ _ c.loop-byte-test.true c.loop-byte.invariant _ c.in_err-scan.ensures ∙ scan_parsed _ (omega arith) (omega arith) _)
 
-pub step-closed-requires : goal.step-closed-requires
-step-closed-requires c =
-    omega (arith, step_line c.args.width c.loop-i.scan newline, ap (λ (s : Scan). s.line) c.step-ended.ensures)
+pub loop-byte-preserved : goal.loop-byte-preserved
+loop-byte-preserved c =
+    scan_next _ _ _ _ c.loop-byte-test.true c.loop-byte.invariant _ c.in_ok-scan.ensures
 
-pub returns-then-closed-ne0 : goal.returns-then-closed-ne0
-returns-then-closed-ne0 c =
-    text_refused _ _ _ _ _ (scan_end _ _ _ _ c.loop-i-test.false c.loop-i.invariant) c.step-ended.ensures c.step-closed.ensures _ _
-    c.if-closed-ne0.true c.numbers_due.ensures c.none-none.ensures
-    ∙ scan_parsed _ (omega arith) (omega arith) _
+pub returns-in_err-ended : goal.returns-in_err-ended
+returns-in_err-ended c =
+    let p = err_from_is_err_and c.from_residual-in_err-ended.result c.from_residual-in_err-ended.ensures.1 in
+    rw (p.1, p.2)
+    (first_wrong _ _ _ _ c.loop-byte-test.false c.loop-byte.invariant _ c.in_err-ended.ensures ∙ scan_parsed _ (omega arith) (omega arith) _)
+
+pub step-requires-3 : goal.step-requires-3
+step-requires-3 c =
+    omega (arith, next_line _ _ newline _ c.in_ok-ended.ensures)
+
+pub returns-in_err-closed : goal.returns-in_err-closed
+returns-in_err-closed c =
+    let p = err_from_is_err_and c.from_residual-in_err-closed.result c.from_residual-in_err-closed.ensures.1 in
+    rw (p.1, p.2)
+    (second_wrong _ _ _ _ c.loop-byte-test.false c.loop-byte.invariant _ c.in_ok-ended.ensures _ c.in_err-closed.ensures
+    ∙ scan_parsed _ (omega arith) (omega arith) _)
 
 pub returns : goal.returns
 returns c =
-    text-taken _ _ _ _ _ (scan_end _ _ _ _ c.loop-i-test.false c.loop-i.invariant) c.step-ended.ensures c.step-closed.ensures
-    c.if-closed-ne0.false
+    text_taken _ _ _ _ c.loop-byte-test.false c.loop-byte.invariant _ c.in_ok-ended.ensures _ c.in_ok-closed.ensures
     ∙ scan_parsed _ (omega arith) (omega arith) _

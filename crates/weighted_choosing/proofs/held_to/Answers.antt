@@ -8,7 +8,7 @@ unfolding held_to
 returns-then-at_most c =
     rw (sym c.at_most.ensures ∙ c.if-at_most.true)
 
-pub returns : goal.returns
+pub returns-else-at_most : goal.returns-else-at_most
 unfolding held_to
-returns c =
+returns-else-at_most c =
     rw (sym c.at_most.ensures ∙ c.if-at_most.false)

@@ -1,6 +1,6 @@
 -- `weighted_choosing::read_back` meets its contract: the jobs are walked over from the outermost inwards.
-use Prim.Native.Nat.{◌*◌, ◌-◌}
-use lib.ListN.{get_or}
+use Prim.Native.Nat.{◌*◌}
+use lib.ListN.{length, get_or}
 use Rattle.base.specs.Limits.{max_tasks, max_weight}
 use Rattle.base.specs.Arrays.{first_places}
 use Rattle.schedule.specs.JobArrays.{no_job}
@@ -12,9 +12,5 @@ use Rattle.weighted_choosing.proofs.read_back.Given as goal
 
 abbrev pub invariant-loop-i : goal.invariant-loop-i
 invariant-loop-i l =
-    Walked (weighed (λ k. get_or l.weights k 0)) (λ k. get_or l.jobs k no_job) l.count (max_tasks * max_weight) (back_over (weighed (λ k. get_or l.weights k 0)) (first_places no_job l.jobs l.count) l.most) l.i l.left l.keeps
-    × Counted (λ k. get_or l.jobs k no_job) l.count (back_over (weighed (λ k. get_or l.weights k 0)) (first_places no_job l.jobs l.count) l.most) l.i l.kept l.discarded
-
-abbrev pub decreases-loop-i : goal.decreases-loop-i
-decreases-loop-i l =
-    l.count - l.i
+    Walked (weighed (λ k. get_or l.weights k 0)) (λ k. get_or l.jobs k no_job) (length l.jobs) (max_tasks * max_weight) (back_over (weighed (λ k. get_or l.weights k 0)) (first_places no_job l.jobs (length l.jobs)) l.most) l.i l.left l.keeps
+    × Counted (λ k. get_or l.jobs k no_job) (length l.jobs) (back_over (weighed (λ k. get_or l.weights k 0)) (first_places no_job l.jobs (length l.jobs)) l.most) l.i l.kept l.discarded

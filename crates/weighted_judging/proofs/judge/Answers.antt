@@ -7,8 +7,8 @@ use Rattle.judging.proofs.ReadingLaws.{reads_legal, reads_judged}
 use Rattle.weighted_judging.proofs.WeightedReads.{weighted_reads}
 use Rattle.weighted_judging.proofs.judge.Goals as goal
 
-pub judge_records-requires : goal.judge_records-requires
-judge_records-requires c =
+pub judge_reading-requires : goal.judge_reading-requires
+judge_reading-requires c =
     let file = c.args.file.now in
     reads_legal (weighted_read file) c.read_table.result (weighted_reads file c.read_table.result c.read_table.ensures) (read_legal file)
 
@@ -17,6 +17,6 @@ returns c =
     let file = c.args.file.now in
     let read = c.read_table.result in
     let is =
-    c.judge_records.ensures
+    c.judge_reading.ensures
     ∙ reads_judged (weighted_read file) read (weighted_reads file read c.read_table.ensures) c.args.launch c.args.marks.now c.args.runs.now in
     record { reply = is; sound = sound_of c.args.launch (weighted_read file) c.args.marks.now c.args.runs.now _ is }

@@ -1,52 +1,58 @@
 -- `weighted_planner::plan_jobs` meets its contract: a refusal touches no list, and what is put under the chosen list is the plan.
-use borrow.Author.Tests.{ne_eqb}
 use Prim.Native.Nat.{ℕ}
+use mathlib.Core.Path.{refl, ap, ◌∙◌}
+use lib.Dec.{eqb}
+use Rattle.std.specs.Prelude.{Err}
+use Rattle.table.proofs.AnswerLaws.{question_returns}
+use Rattle.planner.specs.Refusals.{plan_number, planned_of}
 use mathlib.Core.Bool.{true}
 use native.Mathlib.Omega.{arith}
 use lib.ListN.{get_or}
+use borrow.Author.Tests.{ne_eqb}
 use Rattle.plans.specs.Planning.{LentLists, chosen_by}
 use Rattle.plans.specs.PlanParts.{fits_by}
 use Rattle.plans.proofs.ArrayLaws.{refused-plan, none-fit, put-known, put-plan}
 use Rattle.weighted_planner.proofs.plan_jobs.Goals as goal
 
-pub returns-then-refusal-ne0 : goal.returns-then-refusal-ne0
-returns-then-refusal-ne0 c =
+pub returns-in_err-refused_jobs : goal.returns-in_err-refused_jobs
+returns-in_err-refused_jobs c =
     let lent : LentLists = record { marks = c.args.marks.now; starts = c.args.starts.now; ends = c.args.ends.now; tasks = c.args.tasks.now } in
-    let weight : ℕ → ℕ = λ k. get_or c.args.weights k 0 in
-    record {
-      value = (refused-plan true (weight) c.args.jobs c.args.count (lent) c.refused_jobs-refusal.result c.refused_jobs-refusal.ensures
-          (ne_eqb c.refused_jobs-refusal.result.number 0 c.if-refusal-ne0.true)).0;
-      tasks_value = (refused-plan true (weight) c.args.jobs c.args.count (lent) c.refused_jobs-refusal.result c.refused_jobs-refusal.ensures
-          (ne_eqb c.refused_jobs-refusal.result.number 0 c.if-refusal-ne0.true)).1;
-    }
+    let weight : ℕ → ℕ = λ k. get_or c.args.weights.now k 0 in
+    let due = rw c.in_err-refused_jobs.was at c.refused_jobs.ensures in
+    let refusal = c.in_err-refused_jobs.field-0.0 in
+    let same = question_returns c.from_residual.result (Err refusal) refusal c.from_residual.ensures.1 refl in
+    let plan =
+    refused-plan true weight c.args.jobs.now lent (planned_of c.from_residual.result) (ap planned_of same ∙ due.0)
+    (ap (λ r. eqb (planned_of r).number 0) same ∙ ne_eqb (plan_number refusal) 0 due.1) in
+    record { value = plan.0; tasks_value = plan.1 }
 
 pub choose-choice-requires : goal.choose-choice-requires
 unfolding fits_by
 choose-choice-requires c =
     let lent : LentLists = record { marks = c.args.marks.now; starts = c.args.starts.now; ends = c.args.ends.now; tasks = c.args.tasks.now } in
-    let weight : ℕ → ℕ = λ k. get_or c.args.weights k 0 in
+    let weight : ℕ → ℕ = λ k. get_or c.args.weights.now k 0 in
     let held = c.requires.held_jobs in
-    let none = none-fit true (weight) c.args.jobs c.args.count (lent) c.refused_jobs-refusal.result c.refused_jobs-refusal.ensures c.if-refusal-ne0.false held in
-    record { count_le_max_tasks = c.requires.held_jobs.few; all_bounded = c.requires.held_jobs.bounded; count_value = none; by_index = λ k l. omega (arith, c.requires.held_jobs.below k l, c.requires.held_jobs.few); by_index_2 = c.requires.by_index }
+    record {
+      count_le_max_tasks = held.few;
+      all_bounded = held.bounded;
+      count_value = none-fit true weight c.args.jobs.now lent _ (rw c.in_ok-refused_jobs.was at c.refused_jobs.ensures) refl held;
+      by_index = λ k l. omega (arith, held.below k l, held.few);
+      by_index_2 = c.requires.by_index;
+    }
 
 pub put_choice-requires : goal.put_choice-requires
 unfolding chosen_by
 put_choice-requires c =
     let lent : LentLists = record { marks = c.args.marks.now; starts = c.args.starts.now; ends = c.args.ends.now; tasks = c.args.tasks.now } in
-    let weight : ℕ → ℕ = λ k. get_or c.args.weights k 0 in
-    let known =
-    put-known true (weight) c.args.jobs c.args.count (lent) c.refused_jobs-refusal.result c.refused_jobs-refusal.ensures c.if-refusal-ne0.false _ _ _
-    c.choose-choice.ensures c.requires.held_jobs in
-    record { held_jobs = c.requires.held_jobs; count_value = known.0; tasks_value = known.1 }
+    let weight : ℕ → ℕ = λ k. get_or c.args.weights.now k 0 in
+    let known = put-known true weight c.args.jobs.now lent _ (rw c.in_ok-refused_jobs.was at c.refused_jobs.ensures) refl _ _ _ c.choose-choice.ensures c.requires.held_jobs in
+    record { held_jobs = c.requires.held_jobs; keeps_value = known.0; tasks_value = known.1 }
 
 pub returns : goal.returns
 unfolding chosen_by
 returns c =
     let lent : LentLists = record { marks = c.args.marks.now; starts = c.args.starts.now; ends = c.args.ends.now; tasks = c.args.tasks.now } in
-    let weight : ℕ → ℕ = λ k. get_or c.args.weights k 0 in
-    record {
-      value = (put-plan true (weight) c.args.jobs c.args.count (lent) c.refused_jobs-refusal.result c.refused_jobs-refusal.ensures c.if-refusal-ne0.false _ _ _
-          c.choose-choice.ensures c.put_choice.result _ c.put_choice.ensures.value c.put_choice.ensures.tasks_value_2).0;
-      tasks_value = (put-plan true (weight) c.args.jobs c.args.count (lent) c.refused_jobs-refusal.result c.refused_jobs-refusal.ensures c.if-refusal-ne0.false _ _ _
-          c.choose-choice.ensures c.put_choice.result _ c.put_choice.ensures.value c.put_choice.ensures.tasks_value_2).1;
-    }
+    let weight : ℕ → ℕ = λ k. get_or c.args.weights.now k 0 in
+    let plan = put-plan true weight c.args.jobs.now lent _ (rw c.in_ok-refused_jobs.was at c.refused_jobs.ensures) refl _ _ _
+    c.choose-choice.ensures c.put_choice.result _ c.put_choice.ensures.value c.put_choice.ensures.tasks_value_2 in
+    record { value = plan.0; tasks_value = plan.1 }

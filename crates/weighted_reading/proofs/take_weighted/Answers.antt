@@ -1,16 +1,16 @@
 -- `weighted_reading::take_weighted` meets its contract: the weight starts at the bit where the task ended.
-use Prim.Native.Nat.{◌+◌, ◌-◌}
-use mathlib.Core.Path.{◌∙◌}
-use native.Mathlib.Omega.{arith}
+use Rattle.std.proofs.Common.{◌+◌, ◌-◌, ◌∙◌, arith}
 use Rattle.table.specs.Reading.{task_from}
 use Rattle.reading.proofs.Fields.{field_taken}
 use Rattle.weighted_reading.proofs.take_weighted.Goals as goal
 
-pub returns : goal.returns
+pub returns-clause-task : goal.returns-clause-task
 unfolding task_from
-returns c =
-    let s = c.args.file.now in (
-      c.take_task-taken.ensures.0,
-      c.take-weight.ensures.0 ∙ field_taken s (c.take_task-taken.result.next.at + 4 - 57) 53 4 0 c.take_near_end-behind.ensures.0 (omega arith) (omega arith),
-      omega arith,
-    )
+returns-clause-task c =
+    c.take_task-task.ensures.task
+
+pub returns-clause-weight : goal.returns-clause-weight
+returns-clause-weight c =
+    let behind = c.take_task-task.new.at.at in
+    c.take.ensures.value
+    ∙ field_taken c.args.file.now (behind + 4 - 57) 53 4 0 c.take_near_end-row.ensures.row.0 (omega arith) (omega arith)

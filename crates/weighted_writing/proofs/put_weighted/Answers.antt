@@ -1,5 +1,4 @@
-use mathlib.Core.Path.{◌≡◌, refl, ◌∙◌}
-use native.Mathlib.Omega.{arith}
+use Rattle.std.proofs.Common.{◌≡◌, refl, ◌∙◌, arith}
 use Rattle.bits.specs.Bits.{bytes_for}
 use Rattle.bits.specs.PutBits.{put_bits}
 use Rattle.bits.specs.Rows.{rows_bits}
@@ -13,31 +12,28 @@ unfolding weighted_length bytes_for
 put_header-at-requires c =
     omega arith
 
-pub loop-i-init : goal.loop-i-init
+pub loop-k-init : goal.loop-k-init
 unfolding put_bits rows_bits
-loop-i-init c =
-    (omega arith, c.put_header-at.ensures.0, refl, refl)
+loop-k-init c =
+    (c.put_header-at.ensures.0, refl, refl)
 
-pub put_row-at-requires : goal.put_row-at-requires
+pub put_row-requires : goal.put_row-requires
 unfolding weighted_length bytes_for
-put_row-at-requires c =
+put_row-requires c =
     record { weighted_width_bound = omega arith; weighted_width_bound_2 = omega arith }
 
-pub loop-i-preserved : goal.loop-i-preserved
+pub loop-k-preserved : goal.loop-k-preserved
 unfolding task_at weight_at
-loop-i-preserved c = (
-  omega arith,
-  omega arith,
-  put_next weighted_widths _ _ _ _ _ _ c.loop-i.invariant.2 c.loop-i.invariant.1 c.put_row-at.ensures.1,
-  c.put_row-at.auto.out ∙ c.loop-i.invariant.3,
-)
+loop-k-preserved c =
+    let before = c.loop-k.invariant in
+    (omega arith, put_next weighted_widths _ _ _ _ _ _ before.1 before.0 c.put_row.ensures.bits, c.put_row.auto.out ∙ before.2)
 
 pub shape_of-out : goal.shape_of-out
 shape_of-out c =
-    c.loop-i.invariant.3 ∙ c.put_header-at.auto.out
+    c.loop-k.invariant.2 ∙ c.put_header-at.auto.out
 
 pub returns : goal.returns
 unfolding file_of_weighted weighted_length
 returns c =
-    let whole : c.loop-i.i ≡ c.args.weighted.table.count = omega arith in
-    put_whole weighted_widths _ _ _ _ _ _ _ c.requires.count_in_bounds c.put_header-at.ensures.1 (rw whole at c.loop-i.invariant.2)
+    let whole : c.loop-k.k ≡ c.args.weighted.table.count = omega arith in
+    put_whole weighted_widths _ _ _ _ _ _ _ c.requires.count_in_bounds c.put_header-at.ensures.1 (rw whole at c.loop-k.invariant.1)

@@ -1,10 +1,11 @@
-use mathlib.Core.Path.{◌≡◌, refl, ◌∙◌}
-use native.Mathlib.Omega.{arith}
+use Rattle.std.proofs.Common.{◌≡◌, refl, ◌∙◌, ap, arith}
+use lib.Seq.{get_or-take}
 use Rattle.bits.specs.Bits.{bytes_for}
 use Rattle.bits.specs.PutBits.{put_bits}
-use Rattle.bits.specs.Rows.{rows_bits}
+use Rattle.bits.specs.Rows.{row_bits, rows_bits}
+use Rattle.table.specs.declared.Task.{Task}
 use Rattle.table.specs.Layout.{task_widths, task_start, file_length}
-use Rattle.table.specs.Tables.{task_at}
+use Rattle.table.specs.Tables.{no_task, task_at, task_row}
 use Rattle.table.specs.Writing.{file_of}
 use Rattle.writing.proofs.PutLaws.{put_next, put_whole}
 use Rattle.writing.proofs.put_table.Goals as goal
@@ -14,29 +15,32 @@ unfolding file_length task_start bytes_for
 put_header-at-requires c =
     omega arith
 
-pub loop-i-init : goal.loop-i-init
+pub loop-task-init : goal.loop-task-init
 unfolding task_start put_bits rows_bits
-loop-i-init c =
-    (omega arith, c.put_header-at.ensures.0, refl, refl)
+loop-task-init c =
+    (c.put_header-at.ensures.0, refl, refl)
 
-pub put_task-at-requires : goal.put_task-at-requires
+pub put_task-requires : goal.put_task-requires
 unfolding file_length task_start bytes_for
-put_task-at-requires c =
+put_task-requires c =
     record { task_width_bound = omega arith; task_width_bound_2 = omega arith }
 
-pub loop-i-preserved : goal.loop-i-preserved
+pub loop-task-preserved : goal.loop-task-preserved
 unfolding task_start task_at
-loop-i-preserved c =
-    let before = c.loop-i.invariant in
-    let put = c.put_task-at.ensures in
-    (omega arith, omega arith, put_next task_widths _ _ _ _ _ _ before.2 before.1 put.1, c.put_task-at.auto.out ∙ before.3)
+loop-task-preserved c =
+    let before = c.loop-task in
+    let t = c.args.table in
+    let i = before.task-index in
+    let here = get_or-take t.count t.tasks i no_task (omega arith) in
+    let put = c.put_task.ensures.bits ∙ ap (λ (task : Task). put_bits before.out before.at.at (row_bits task_widths (task_row task))) here in
+    (omega arith, put_next task_widths _ _ _ _ _ _ before.invariant.1 before.invariant.0 put, c.put_task.auto.out ∙ before.invariant.2)
 
 pub shape_of-out : goal.shape_of-out
 shape_of-out c =
-    c.loop-i.invariant.3 ∙ c.put_header-at.auto.out
+    c.loop-task.invariant.2 ∙ c.put_header-at.auto.out
 
 pub returns : goal.returns
 unfolding file_of file_length
 returns c =
-    let whole : c.loop-i.i ≡ c.args.table.count = omega arith in
-    put_whole task_widths _ _ _ _ _ _ _ c.requires.count_in_bounds c.put_header-at.ensures.1 (rw whole at c.loop-i.invariant.2)
+    let whole : c.loop-task.task-index ≡ c.args.table.count = omega arith in
+    put_whole task_widths _ _ _ _ _ _ _ c.requires.count_in_bounds c.put_header-at.ensures.1 (rw whole at c.loop-task.invariant.1)

@@ -6,17 +6,14 @@ use Rattle.bits.specs.PutBits.{put_bits}
 use Rattle.bits.proofs.ByteLaws.{put_on}
 use Rattle.bits.proofs.Cursor.put.Goals as goal
 
-pub returns-then-first-eq0 : goal.returns-then-first-eq0
+pub returns-then-first-eq0-clause-bits : goal.returns-then-first-eq0-clause-bits
 unfolding put_bits bits_of
-returns-then-first-eq0 c =
+returns-then-first-eq0-clause-bits c =
     let none : c.args.width ≡ 0 = omega arith in
-    (omega arith, rw none refl)
+    rw none refl
 
-pub returns : goal.returns
-returns c =
+pub returns-clause-bits : goal.returns-clause-bits
+returns-clause-bits c =
     let a = c.args in
-    let first = c.piece_width-first.result in (
-      refl,
-      c.put_bytes.ensures
-          ∙ put_on a.out.now _ _ a.width first a.value (omega arith) (λ l. omega arith) c.put_piece.ensures,
-    )
+    let first = c.min-first.result in
+    c.put_bytes.ensures ∙ put_on a.out.now _ _ a.width first a.value (omega arith) (λ l. omega arith) c.put_piece.ensures

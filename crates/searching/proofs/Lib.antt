@@ -1,3 +1,0 @@
-pub mod HalvingLaws
-pub mod ColumnLaws
-pub mod FoundLaws
