@@ -154,7 +154,7 @@ fn busy(name: &str, finished: &Finished) {
     );
 }
 
-/// Measures what is asked of a run list alone, and prints its line. The library copies the list first, two columns of it or all three.
+/// Measures what is asked of a run list alone, and prints its line.
 fn on_runs(name: &str, runs: &[Run], proved: impl Fn(&[Run]), reference: impl Fn(&[Run])) {
     line(name, OTHERS, both(|| proved(black_box(runs)), || reference(black_box(runs))));
 }
