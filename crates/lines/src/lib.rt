@@ -14,6 +14,8 @@ pub const NEWLINE: u8 = b'\n';
 
 pub const ZERO: u8 = b'0';
 
+pub const NINE: u8 = b'9';
+
 // The most bytes of a number in a line: 20 digits, and the byte beside them. Definitions say max_field.
 pub const MAX_FIELD: usize = 20 + 1;
 

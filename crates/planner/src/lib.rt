@@ -80,17 +80,24 @@ impl From<Refusal> for PlanRefusal {
     }
 }
 
-// The reply of a refusal.
-pub fn declined(refusal: PlanRefusal) -> Planned
-    ensures { result ≡ plan_declined (plan_number refusal) (plan_place refusal) }
+// The reply of a refusal, by its number and place.
+pub fn declined(number: u32, place: usize) -> Planned
+    ensures { result ≡ plan_declined number place }
 {
     Planned {
-        number: refusal.number(),
-        place: refusal.place(),
+        number,
+        place,
         kept: 0,
         discarded: 0,
         runs: 0,
     }
+}
+
+// The same, by the refusal.
+pub fn refusal_reply(refusal: PlanRefusal) -> Planned
+    ensures { result ≡ plan_declined (plan_number refusal) (plan_place refusal) }
+{
+    declined(refusal.number(), refusal.place())
 }
 
 // The reply of planning by what it comes to: the reply of a plan, or why it refuses.
@@ -99,7 +106,7 @@ pub fn reply(planned: Result<Planned, PlanRefusal>) -> Planned
 {
     match planned {
         Ok(planned) => planned,
-        Err(refusal) => declined(refusal),
+        Err(refusal) => refusal_reply(refusal),
     }
 }
 
@@ -318,7 +325,7 @@ fn refused(refusal: Refusal) -> Counted
 {
     Counted {
         count: 0,
-        reply: declined(PlanRefusal::from(refusal)),
+        reply: refusal_reply(PlanRefusal::from(refusal)),
     }
 }
 
@@ -337,11 +344,15 @@ pub fn plan_counted(
     ensures tasks_value { lent_after marks starts ends tasks
         ≡ lists_left launch (plain_read file.now) result.reply (lent_before marks starts ends tasks) }
 {
-    let table = match reading::read_any_kind(file) {
-        Ok(table) => table,
+    let read = match reading::read_any_kind(file) {
+        Ok(read) => read,
         Err(refusal) => return refused(refusal),
     };
-    let Some(found) = ordering::keys_of_kind(table) else {
+    if let Err(refusal) = read.windows {
+        return refused(refusal);
+    }
+    let table = read.table;
+    let Ok(found) = ordering::keys_of_kind(table) else {
         return refused(table.window_answer().unwrap_err());
     };
     let planned = plan_table(table, &found, launch, marks, starts, ends, tasks);

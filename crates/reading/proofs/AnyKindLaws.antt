@@ -1,6 +1,6 @@
 -- Reading of a table of any kind: what it refuses, reading refuses; and what it tells of the table where it refuses nothing.
 use Prim.Native.Nat.{ℕ, ◌≤◌, ◌<◌}
-use mathlib.Core.Path.{◌≡◌, refl, sym, ◌∙◌}
+use mathlib.Core.Path.{◌≡◌, refl, sym, ap, ◌∙◌}
 use mathlib.Core.Logic.{inl, inr, ⊎_elim}
 use mathlib.Core.Bool.{Bool, true, false}
 use mathlib.Core.List.{List}
@@ -15,15 +15,16 @@ use Rattle.table.specs.declared.Refusal.{Refusal}
 use Rattle.table.specs.declared.Refusal.TheVariants.{Window}
 use Rattle.table.specs.Tables.{task_at, table_of}
 use Rattle.table.specs.Layout.{task_widths, task_start}
-use Rattle.table.specs.Answers.{Accepted, is_accepted}
+use Rattle.table.specs.Answers.{Answer, Accepted, is_accepted, answered, first_refusal}
 use Rattle.table.specs.Windows.{bad_window}
 use Rattle.table.specs.Kinds.{is_nested, is_similar, bad_window_answer, windows_answer, table_windows_answer}
 use Rattle.table.specs.Reading.{count_in, p_in, q_in, task_from, task_in, table_in, head_answer, read_answer}
-use Rattle.table.proofs.AnswerLaws.{accepted_is, answered_ok-known, answered_err-known, first_refusal-known, refused_none}
+use Rattle.table.proofs.AnswerLaws.{accepted_is, answered_ok, answered_err, answered_ok-known, answered_err-known, first_refusal-known, refused_none}
 use Rattle.table.proofs.KindLaws.{window_known, window_test}
 use Rattle.table.proofs.RoundTrip.{read_test}
 use Rattle.table.proofs.TableLaws.{task_at-below}
-use Rattle.reading.specs.AnyKind.{any_kind_answer, any_kind_reply}
+use Rattle.reading.specs.declared.AnyKind.{AnyKind}
+use Rattle.reading.specs.AnyKind.{rows_result, any_kind_answer, any_kind_reply, any_kind_told}
 use Rattle.reading.proofs.ReadLaws.{head_few, head_accepted}
 
 -- What it refuses, reading refuses.
@@ -37,14 +38,37 @@ any_kind_known : (s : List ℕ) → any_kind_answer s ≡ Accepted → (head_ans
 unfolding any_kind_answer
 any_kind_known s e = first_refusal-known (head_answer s) (bad_window_answer (task_at (table_in s)) (table_in s).count) e
 
--- Then its reply has the table of the file, and else the refusal.
-pub any_kind_in : (t : Table) (s : List ℕ) → Ok t ≡ any_kind_reply s → (any_kind_answer s ≡ Accepted) × (t ≡ table_in s)
+-- Its reply tells its answer.
+answered_told : (head : Answer) (read : AnyKind) → any_kind_told (answered head read) ≡ first_refusal head read.windows
+answered_told (Ok accepted) read = refl
+answered_told (Err refusal) read = refl
+
+pub any_kind_tells : (s : List ℕ) → any_kind_told (any_kind_reply s) ≡ any_kind_answer s
+unfolding any_kind_reply any_kind_answer
+any_kind_tells s =
+    answered_told (head_answer s) (record { table = table_in s; windows = bad_window_answer (task_at (table_in s)) (table_in s).count })
+
+-- By what reading without a look at the windows returns: a refusal of it is the reply, and else the reply is made of its table and what the windows answer.
+pub any_kind_refusal : (r : Refusal) (s : List ℕ) → Err r ≡ rows_result s → Err r ≡ any_kind_reply s
+unfolding rows_result any_kind_reply
+any_kind_refusal r s e = answered_err (head_answer s) _ r (sym (answered_err-known (head_answer s) (table_in s) r e))
+
+pub any_kind_made : (t : Table) (windows : Answer) (s : List ℕ) → Ok t ≡ rows_result s → windows ≡ bad_window_answer (task_at t) t.count
+    → Ok (record { table = t; windows = windows }) ≡ any_kind_reply s
+unfolding rows_result any_kind_reply
+any_kind_made t windows s e w =
+    let made = answered_ok-known (head_answer s) (table_in s) t e in
+    let answer = w ∙ ap (λ (x : Table). bad_window_answer (task_at x) x.count) made.1 in
+    answered_ok (head_answer s) _ _ made.0 (λ i. record { table = made.1 i; windows = answer i })
+
+-- A reply with a table has that of the file, and tells what the windows answer; a refusal is the answer.
+pub any_kind_in : (read : AnyKind) (s : List ℕ) → Ok read ≡ any_kind_reply s → (read.windows ≡ any_kind_answer s) × (read.table ≡ table_in s)
 unfolding any_kind_reply
-any_kind_in t s e = answered_ok-known (any_kind_answer s) (table_in s) t e
+any_kind_in read s e =
+    (ap any_kind_told e ∙ any_kind_tells s, ap (λ (x : AnyKind). x.table) (answered_ok-known (head_answer s) _ read e).1)
 
 pub any_kind_out : (r : Refusal) (s : List ℕ) → Err r ≡ any_kind_reply s → any_kind_answer s ≡ Err r
-unfolding any_kind_reply
-any_kind_out r s e = answered_err-known (any_kind_answer s) (table_in s) r e
+any_kind_out r s e = sym (any_kind_tells s) ∙ ap any_kind_told (sym e)
 
 -- the deadline frame of a task of a file is one that a table can name
 deadline_named : (s : List ℕ) (start : ℕ) → (task_from s start).deadline ≤ last_frame

@@ -1,19 +1,21 @@
 -- From what the parts of reading answer to the reply of the whole.
 use Prim.Native.Nat.{ℕ, ◌*◌, ◌≤◌}
-use mathlib.Core.Path.{◌≡◌, sym, ap, ◌∙◌}
+use mathlib.Core.Path.{◌≡◌, refl, sym, ap, ◌∙◌}
 use mathlib.Core.List.{List}
 use lib.Dec.{ltb}
 use native.Mathlib.Omega.{arith}
 use lib.ListN.{length}
+use Rattle.std.specs.Prelude.{Result, Ok, Err}
 use Rattle.base.specs.Limits.{max_tasks}
 use Rattle.base.specs.Tests.{pick}
 use Rattle.base.specs.Places.{places}
 use Rattle.bits.specs.Bits.{bytes_for}
 use Rattle.table.specs.declared.Task.{Task}
 use Rattle.table.specs.declared.Table.{Table}
+use Rattle.table.specs.declared.Refusal.{Refusal}
 use Rattle.table.specs.declared.windows.Windows.{Windows}
-use Rattle.table.specs.Tables.{no_task, task_at, table_of}
-use Rattle.table.specs.Answers.{Accepted}
+use Rattle.table.specs.Tables.{no_task, no_table, task_at, table_of}
+use Rattle.table.specs.Answers.{Answer, Accepted, is_accepted, answered}
 use Rattle.table.specs.Layout.{header_width, task_width, row_start, task_start}
 use Rattle.table.specs.Kinds.{windows_answer, table_windows_answer}
 use Rattle.table.specs.WindowColumns.{windows_of, Holds}
@@ -21,7 +23,7 @@ use Rattle.table.proofs.AnswerLaws.{first_refusal-known}
 use Rattle.table.proofs.RowFiles.{count_known, front_known}
 use Rattle.table.proofs.TableLaws.{task_at-below}
 use Rattle.table.proofs.WindowLaws.{held_answer}
-use Rattle.table.specs.Reading.{count_in, p_in, q_in, task_in, table_in, front_answer, head_answer, read_answer}
+use Rattle.table.specs.Reading.{count_in, p_in, q_in, task_in, table_in, front_answer, head_answer, read_answer, read_result, Reading, reading_of, read_reply}
 
 -- the header's numbers and the tasks that were taken make the table of the file
 pub table_taken : (s : List ℕ) (count : ℕ) (t : Table) → count ≡ count_in s → t.count ≡ count → t.p ≡ p_in s → t.q ≡ q_in s
@@ -71,3 +73,12 @@ head_accepted s e = rw e
 pub read_head : (s : List ℕ) → read_answer s ≡ Accepted → head_answer s ≡ Accepted
 unfolding read_answer
 read_head s e = (first_refusal-known (head_answer s) (table_windows_answer (table_in s)) e).0
+
+-- what is returned comes to the reply that has a table beside each answer
+answered_reply : (a : Answer) (t : Table) → ◌≡◌ {A = Reading} (reading_of (answered a t)) (record { answer = a; table = pick (is_accepted a) t no_table })
+answered_reply (Ok accepted) t = refl
+answered_reply (Err refusal) t = refl
+
+pub result_reply : (s : List ℕ) (r : Result Table Refusal) → r ≡ read_result s → reading_of r ≡ read_reply s
+unfolding read_result read_reply
+result_reply s r e = ap reading_of e ∙ answered_reply (read_answer s) (table_in s)

@@ -68,9 +68,8 @@ mirrored_lowest releases deadlines mirrored n small t =
     sym
     (similar_mirrored (window_at releases deadlines j) (window_at releases deadlines k) (window_at releases mirrored j) (window_at releases mirrored k) (each j (omega arith)) (each k l))))
 
-pub mirrored_crossing : (windows mirrored : Windows) → ((k : ℕ) → k < windows.count → get_or windows.deadlines k 0 ≤ greatest_number)
-    → (mirrored.count ≡ windows.count) × (mirrored.releases ≡ windows.releases) × Mirrored windows.count windows.deadlines mirrored.deadlines
-    → found (fails_earlier nested (windows_of mirrored)) mirrored.count ≡ found (fails_earlier similar (windows_of windows)) windows.count
+pub mirrored_crossing : (releases deadlines mirrored : List ℕ) (n : ℕ) → ((k : ℕ) → k < n → get_or deadlines k 0 ≤ greatest_number) → Mirrored n deadlines mirrored
+    → found (fails_earlier nested (window_at releases mirrored)) n ≡ found (fails_earlier similar (window_at releases deadlines)) n
 unfolding found some_below
-mirrored_crossing windows mirrored small t =
-    rw (t.0, t.1, mirrored_lowest windows.releases windows.deadlines mirrored.deadlines windows.count small t.2)
+mirrored_crossing releases deadlines mirrored n small t =
+    rw (mirrored_lowest releases deadlines mirrored n small t)

@@ -1,11 +1,16 @@
 -- For the proofs of code alone: windows whose frames stand in two columns.
 use Rattle.std.specs.Prelude.{ℕ, ◌-◌, ◌<◌, ◌≡◌, List, get_or}
+use Rattle.base.specs.Lent.{ListParameter}
 use Rattle.table.specs.declared.Task.{Task}
 use Rattle.table.specs.declared.windows.Windows.{Windows}
 
 -- the window at place j of a column of release frames and a column of deadline frames, as a task of no ticks
 abbrev pub window_at : List ℕ → List ℕ → ℕ → Task
 window_at releases deadlines j = record { release = get_or releases j 0; deadline = get_or deadlines j 0; mandatory = 0; optional = 0 }
+
+-- the windows of two columns that a function is lent, as they stand when it is called
+abbrev pub windows_lent : ListParameter → ListParameter → ℕ → Task
+windows_lent releases deadlines = window_at releases.entry.now deadlines.entry.now
 
 -- the windows of the code's columns
 abbrev pub windows_of : Windows → ℕ → Task

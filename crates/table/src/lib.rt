@@ -17,6 +17,7 @@ mod rules;
 mod windows;
 
 use base::{MAX_PERIOD, MAX_TASKS};
+pub use rules::{columns_answer, nested_answer};
 pub use windows::Windows;
 
 // The widths of a file's fields in bits: the task count, p and q, a frame, a number of ticks.

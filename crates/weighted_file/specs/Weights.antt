@@ -1,6 +1,6 @@
 -- Weighted tables, as request 7 has them: the table value, its file, and what reading and writing reply. 'A weighted table is a nested table whose tasks each
 -- carry 4 more bits after the optional ticks, a weight of 1 to 15, so 66 bits a task.'
-use Rattle.std.specs.Prelude.{ℕ, ◌+◌, ◌<◌, ◌≡◌, List, [], ◌∷◌, ◌++◌, Bool, ltb, eqb, length, get_or, Result}
+use Rattle.std.specs.Prelude.{ℕ, ◌+◌, ◌<◌, ◌≡◌, List, [], ◌∷◌, ◌++◌, Bool, ltb, eqb, length, get_or, Result, Ok, Err}
 use Rattle.base.specs.Limits.{max_tasks, max_weight}
 use Rattle.base.specs.Tests.{pick, or}
 use Rattle.base.specs.Places.{places}
@@ -11,7 +11,7 @@ use Rattle.table.specs.declared.Refusal.TheVariants.{Weight}
 use Rattle.table.specs.declared.Written.{Written}
 use Rattle.table.specs.Tables.{task_at, table_of, task_row, task_of, no_table, Same}
 use Rattle.table.specs.Layout.{task_widths, row_start, rows_length}
-use Rattle.table.specs.Answers.{Answer, is_accepted, answered, first_refusal, lowest_refusal}
+use Rattle.table.specs.Answers.{Answer, Accepted, is_accepted, answered, first_refusal, lowest_refusal}
 use Rattle.table.specs.Kinds.{nested_answer}
 use Rattle.table.specs.Reading.{count_in, p_in, q_in, front_answer, ReadTable}
 use Rattle.table.specs.Writing.{rows_file, first_too_wide, rows_reply}
@@ -94,6 +94,11 @@ weighted_read_result s = answered (weighted_answer s) (weighted_in s)
 pub record WeightedReading : Type 0 where
   pub answer : Answer
   pub weighted : Weighted
+
+-- the reply by what reading returns: beside a refusal the weighted table is 0 throughout
+abbrev pub weighted_reading_of : Result Weighted Refusal → WeightedReading
+weighted_reading_of (Ok weighted) = record { answer = Accepted; weighted = weighted }
+weighted_reading_of (Err refusal) = record { answer = Err refusal; weighted = no_weighted }
 
 -- a refused reading replies with a weighted table that is 0 throughout
 unfoldable pub weighted_read_reply : List ℕ → WeightedReading

@@ -115,6 +115,6 @@ pub fn plan(
 {
     match weighted_reading::read(file) {
         Ok(weighted) => planner::reply(plan_weighted(weighted, launch, marks, starts, ends, tasks)),
-        Err(refusal) => planner::declined(PlanRefusal::from(refusal)),
+        Err(refusal) => planner::refusal_reply(PlanRefusal::from(refusal)),
     }
 }

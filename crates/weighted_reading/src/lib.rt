@@ -7,7 +7,7 @@ ghost use Rattle.bits.specs.Rows.{fields_from};
 ghost use Rattle.table.specs.Tables.{task_of};
 ghost use Rattle.table.specs.Layout.{row_start};
 ghost use Rattle.reading.specs.Headers.{HeaderOf};
-ghost use Rattle.weighted_file.specs.Weights.{weighted_widths, weighted_width, weighted_in, weighted_read_result};
+ghost use Rattle.weighted_file.specs.Weights.{weighted_widths, weighted_width, weighted_in, weighted_read_result, weighted_reading_of, weighted_read_reply};
 ghost use Rattle.weighted_reading.specs.TablesRead.{without_weights};
 
 use base::MAX_TASKS;
@@ -58,6 +58,7 @@ fn weighted_in(file: &[u8], header: Header) -> Weighted
 // rules are looked at in the table made.
 pub fn read(file: &[u8]) -> Result<Weighted, Refusal>
     ensures reply { result ≡ weighted_read_result file.now }
+    ensures as_reply { weighted_reading_of result ≡ weighted_read_reply file.now }
 {
     let header = reading::front_answer(file, WEIGHTED_WIDTH)?;
     let weighted = weighted_in(file, header);

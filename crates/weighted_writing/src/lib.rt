@@ -53,7 +53,7 @@ fn write_reply(weighted: Weighted, room: usize) -> Result<usize, WriteRefusal>
     if table::bad_count(table.count) {
         return Err(WriteRefusal::Rule(Refusal::Count));
     }
-    writing::rows_reply(
+    writing::table_reply(
         table,
         weighted.rules_answer(),
         table::rows_length(WEIGHTED_WIDTH, table.count),

@@ -37,14 +37,14 @@ returns-in-Err c =
     let answer = sym (read_out file c.in-Err.refusal c.in-Err.ensures.reply) in
     let bad = ap is_accepted (sym answer) in
     let says =
-    c.declined.ensures
+    c.refusal_reply.ensures
     ∙ (ap (λ r. plan_declined (plan_number r) (plan_place r)) c.from.ensures ∙ ap (λ (a : Answer). plan_declined (number_of a) (place_of a)) answer) in
     let gives =
-    weighted_clauses c.args.launch file c.declined.result lent lent
+    weighted_clauses c.args.launch file c.refusal_reply.result lent lent
     (record {
       lawful = read_legal file;
       reply_is = says ∙ sym (file_refused c.args.launch (weighted_read file) lent bad);
-      lists_are = table_kept c.args.launch (weighted_read file).weight (weighted_read file).table c.declined.result lent
+      lists_are = table_kept c.args.launch (weighted_read file).weight (weighted_read file).table c.refusal_reply.result lent
           (ap (λ (p : Planned). eqb p.number 0) says ∙ refused_number (weighted_answer file) bad);
     }) in
     record {

@@ -4,13 +4,14 @@ use Rattle.table.specs.Tables.{table_of}
 use Rattle.table.proofs.AnswerLaws.{question_returns, answered_ok, answered_err, first_refuses, first_accepts}
 use Rattle.reading.proofs.ReadLaws.{front_few}
 use Rattle.weighted_file.specs.Weights.{weighted_width, weighted_of, weighted_in, weighted_rules, weighted_answer, weighted_read_result}
-use Rattle.weighted_reading.proofs.ReadLaws.{rows_few}
+use Rattle.weighted_reading.proofs.ReadLaws.{rows_few, result_reply}
 use Rattle.weighted_reading.proofs.read.Goals as goal
 
 pub returns-in_err-header : goal.returns-in_err-header
 unfolding weighted_read_result weighted_answer
 returns-in_err-header c =
-    record { reply = question_returns _ _ _ c.from_residual.ensures.1 (answered_err _ _ _ (first_refuses _ _ _ c.in_err-header.ensures.answer)) }
+    let reply = question_returns _ _ _ c.from_residual.ensures.1 (answered_err _ _ _ (first_refuses _ _ _ c.in_err-header.ensures.answer)) in
+    record { reply = reply; as_reply = result_reply _ _ reply }
 
 pub weighted_in-weighted-requires : goal.weighted_in-weighted-requires
 weighted_in-weighted-requires c =
@@ -27,14 +28,14 @@ pub returns-in_err-rules_answer : goal.returns-in_err-rules_answer
 unfolding weighted_read_result weighted_answer
 returns-in_err-rules_answer c =
     let bad = c.in_err-rules_answer.ensures ∙ ap weighted_rules c.weighted_in-weighted.ensures in
-    record {
-      reply =
-          question_returns _ _ _ c.from_residual-in_err-rules_answer.ensures.1
-          (answered_err _ _ _ (first_accepts _ _ _ (sym c.in_ok-header.ensures.answer) bad));
-    }
+    let reply =
+    question_returns _ _ _ c.from_residual-in_err-rules_answer.ensures.1
+    (answered_err _ _ _ (first_accepts _ _ _ (sym c.in_ok-header.ensures.answer) bad)) in
+    record { reply = reply; as_reply = result_reply _ _ reply }
 
 pub returns : goal.returns
 unfolding weighted_read_result weighted_answer
 returns c =
     let good = c.in_ok-rules_answer.ensures ∙ ap weighted_rules c.weighted_in-weighted.ensures in
-    record { reply = answered_ok _ _ _ (sym (first_accepts _ _ _ (sym c.in_ok-header.ensures.answer) good)) c.weighted_in-weighted.ensures }
+    let reply = answered_ok _ _ _ (sym (first_accepts _ _ _ (sym c.in_ok-header.ensures.answer) good)) c.weighted_in-weighted.ensures in
+    record { reply = reply; as_reply = result_reply _ _ reply }

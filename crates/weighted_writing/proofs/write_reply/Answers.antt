@@ -21,11 +21,11 @@ rows_length-requires c =
       count_le_max_tasks = (count_known c.args.weighted.table.count (sym c.bad_count.ensures ∙ c.if-bad_count.false)).1;
     }
 
-pub rows_reply-requires : goal.rows_reply-requires
-rows_reply-requires c =
+pub table_reply-requires : goal.table_reply-requires
+table_reply-requires c =
     sym c.bad_count.ensures ∙ c.if-bad_count.false
 
 pub returns : goal.returns
 unfolding weighted_write_reply weighted_length
 returns c =
-    c.rows_reply.ensures ∙ reply_parts _ _ _ _ refl c.rules_answer.ensures c.rows_length.ensures
+    c.table_reply.ensures ∙ reply_parts _ _ _ _ refl c.rules_answer.ensures c.rows_length.ensures

@@ -18,11 +18,11 @@ pub file_length-requires : goal.file_length-requires
 file_length-requires c =
     (count_known c.args.table.count (sym c.bad_count.ensures ∙ c.if-bad_count.false)).1
 
-pub rows_reply-requires : goal.rows_reply-requires
-rows_reply-requires c =
+pub table_reply-requires : goal.table_reply-requires
+table_reply-requires c =
     sym c.bad_count.ensures ∙ c.if-bad_count.false
 
 pub returns : goal.returns
 unfolding write_reply
 returns c =
-    c.rows_reply.ensures ∙ reply_parts _ _ _ _ refl c.window_answer.ensures c.file_length.ensures
+    c.table_reply.ensures ∙ reply_parts _ _ _ _ refl c.window_answer.ensures c.file_length.ensures

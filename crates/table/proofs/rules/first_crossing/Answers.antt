@@ -1,6 +1,6 @@
 use Rattle.std.proofs.Common.{sym, ◌∙◌, arith}
 use Rattle.base.proofs.FoundLaws.{found_first, found_none}
-use Rattle.table.proofs.windows.Windows.first_crossing.Goals as goal
+use Rattle.table.proofs.rules.first_crossing.Goals as goal
 
 pub returns-then-crosses_earlier : goal.returns-then-crosses_earlier
 returns-then-crosses_earlier c =

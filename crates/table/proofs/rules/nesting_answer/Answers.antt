@@ -1,8 +1,8 @@
--- `table::Windows::nesting_answer` meets its contract.
+-- `table::nesting_answer` meets its contract.
 use Rattle.table.specs.declared.Refusal.TheVariants.{Kind}
 use Rattle.table.specs.Kinds.{nesting_answer}
 use Rattle.table.proofs.AnswerLaws.{found_refuses, not_found}
-use Rattle.table.proofs.windows.Windows.nesting_answer.Goals as goal
+use Rattle.table.proofs.rules.nesting_answer.Goals as goal
 
 pub returns-in-Some : goal.returns-in-Some
 unfolding nesting_answer

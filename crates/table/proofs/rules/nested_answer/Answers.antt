@@ -1,8 +1,8 @@
--- `table::Windows::nested_answer` meets its contract: one answer after the other.
+-- `table::nested_answer` meets its contract: one answer after the other.
 use Rattle.std.proofs.Common.{sym}
 use Rattle.table.specs.Kinds.{nested_answer}
 use Rattle.table.proofs.AnswerLaws.{question_returns, first_refuses, first_accepts}
-use Rattle.table.proofs.windows.Windows.nested_answer.Goals as goal
+use Rattle.table.proofs.rules.nested_answer.Goals as goal
 
 pub returns-in_err-bad_window_answer : goal.returns-in_err-bad_window_answer
 unfolding nested_answer

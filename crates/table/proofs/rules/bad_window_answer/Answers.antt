@@ -1,8 +1,8 @@
--- `table::Windows::bad_window_answer` meets its contract.
+-- `table::bad_window_answer` meets its contract.
 use Rattle.table.specs.declared.Refusal.TheVariants.{Window}
 use Rattle.table.specs.Kinds.{bad_window_answer}
 use Rattle.table.proofs.AnswerLaws.{found_refuses, not_found}
-use Rattle.table.proofs.windows.Windows.bad_window_answer.Goals as goal
+use Rattle.table.proofs.rules.bad_window_answer.Goals as goal
 
 pub returns-in-Some : goal.returns-in-Some
 unfolding bad_window_answer

@@ -1,9 +1,0 @@
--- `table::Windows::crosses_earlier` meets its contract: the flag says whether some window that was passed is not nested with the task's.
-use Rattle.std.proofs.Common.{◌≡◌, not}
-use Rattle.base.specs.Lowest.{some_below}
-use Rattle.table.specs.Windows.{nested}
-use Rattle.table.specs.WindowColumns.{windows_of}
-use Rattle.table.proofs.windows.Windows.crosses_earlier.Given as goal
-
-abbrev pub invariant-loop-j : goal.invariant-loop-j
-invariant-loop-j l = l.crossing ≡ some_below (λ i. not (nested (windows_of l.self i) l.task)) l.j
