@@ -16,7 +16,8 @@ use Rattle.table.specs.Reading.{one_each, plain_read, table_in, read_answer, rea
 use Rattle.table.specs.Writing.{Legal}
 use Rattle.table.proofs.AnswerLaws.{refused_number}
 use Rattle.table.proofs.RoundTrip.{read_legal}
-use Rattle.reading.specs.AnyKind.{any_kind_reply}
+use Rattle.reading.specs.declared.AnyKind.{AnyKind}
+use Rattle.reading.specs.AnyKind.{any_kind_answer, any_kind_reply}
 use Rattle.orders.specs.Keys.{HasKeys}
 use Rattle.reading.proofs.AnyKindLaws.{any_kind_in, any_kind_out, any_kind_refused, any_kind_table, any_kind_served, any_kind_neither}
 use Rattle.plans.specs.declared.Planned.{Planned}
@@ -53,16 +54,20 @@ refusal_gives launch file lists refusal r same is =
     )
 
 -- where the answer before the kind is looked at is a refusal, it is that of the file
-refused_before : (file : List ℕ) (refusal : Refusal) → Err refusal ≡ any_kind_reply file → Err refusal ≡ read_answer file
-refused_before file refusal e =
-    let is = any_kind_out refusal file e in
-    sym is ∙ any_kind_refused file (ap is_accepted is)
+refused_before : (file : List ℕ) (refusal : Refusal) → any_kind_answer file ≡ Err refusal → Err refusal ≡ read_answer file
+refused_before file refusal is = sym is ∙ any_kind_refused file (ap is_accepted is)
 
--- the table of an answer that is none is ordered by keys
-has_keys : (file : List ℕ) (table : Table) → Ok table ≡ any_kind_reply file → HasKeys table
-has_keys file table e =
-    let known = any_kind_table file (any_kind_in table file e).0 in
-    subst⁻¹ HasKeys (any_kind_in table file e).1 (record { few = known.few; windows = known.good; within_is = known.named })
+-- where that answer is none, the table is that of the file
+served : (file : List ℕ) (read : AnyKind) → Ok read ≡ any_kind_reply file → read.windows ≡ Accepted
+    → (any_kind_answer file ≡ Accepted) × (read.table ≡ table_in file)
+served file read e good = let known = any_kind_in read file e in (sym known.0 ∙ good, known.1)
+
+-- and is ordered by keys
+has_keys : (file : List ℕ) (read : AnyKind) → Ok read ≡ any_kind_reply file → read.windows ≡ Accepted → HasKeys read.table
+has_keys file read e good =
+    let is = served file read e good in
+    let known = any_kind_table file is.0 in
+    subst⁻¹ HasKeys is.1 (record { few = known.few; windows = known.good; within_is = known.named })
 
 -- a refused answer is a refusal
 refused_is : (answer : Answer) → is_accepted answer ≡ false → IsErr answer
@@ -72,44 +77,55 @@ refused_is (Err refusal) e = search rules
 pub returns-in-Err : goal.returns-in-Err
 returns-in-Err c =
     let lent : LentLists = record { marks = c.args.marks.now; starts = c.args.starts.now; ends = c.args.ends.now; tasks = c.args.tasks.now } in
-    let gives =
-    refusal_gives c.args.launch c.args.file.now lent c.in-Err.refusal c.refused.result (refused_before c.args.file.now c.in-Err.refusal c.in-Err.ensures) c.refused.ensures in
+    let file = c.args.file.now in
+    let same = refused_before file c.in-Err.refusal (any_kind_out c.in-Err.refusal file c.in-Err.ensures.reply) in
+    let gives = refusal_gives c.args.launch file lent c.in-Err.refusal c.refused.result same c.refused.ensures in
+    record { count_value = gives.0; reply_value = gives.1.0; tasks_value = gives.1.1 }
+
+pub returns-in-Err-windows : goal.returns-in-Err-windows
+returns-in-Err-windows c =
+    let lent : LentLists = record { marks = c.args.marks.now; starts = c.args.starts.now; ends = c.args.ends.now; tasks = c.args.tasks.now } in
+    let file = c.args.file.now in
+    let bad = sym (any_kind_in c.in-Ok.read file c.in-Ok.ensures.reply).0 ∙ c.in-Err-windows.is in
+    let same = refused_before file c.in-Err-windows.refusal bad in
+    let gives = refusal_gives c.args.launch file lent c.in-Err-windows.refusal c.refused-in-Err-windows.result same c.refused-in-Err-windows.ensures in
     record { count_value = gives.0; reply_value = gives.1.0; tasks_value = gives.1.1 }
 
 pub keys_of_kind-requires : goal.keys_of_kind-requires
-keys_of_kind-requires c = has_keys c.args.file.now c.in-Ok.table c.in-Ok.ensures
+keys_of_kind-requires c = has_keys c.args.file.now c.in-Ok.read c.in-Ok.ensures.reply c.in_default.is
 
 pub window_answer-requires : goal.window_answer-requires
-window_answer-requires c = (has_keys c.args.file.now c.in-Ok.table c.in-Ok.ensures).few
+window_answer-requires c = (has_keys c.args.file.now c.in-Ok.read c.in-Ok.ensures.reply c.in_default.is).few
 
 pub unwrap_err-requires : goal.unwrap_err-requires
 unwrap_err-requires c =
-    let read = any_kind_in c.in-Ok.table c.args.file.now c.in-Ok.ensures in
-    let neither = any_kind_neither c.args.file.now read.0 (rw read.1 at c.in_default.ensures) in
+    let read = served c.args.file.now c.in-Ok.read c.in-Ok.ensures.reply c.in_default.is in
+    let neither = any_kind_neither c.args.file.now read.0 (rw read.1 at c.in_default-keys_of_kind.ensures.0) in
     refused_is c.window_answer.result (ap is_accepted (c.window_answer.ensures ∙ (ap table_windows_answer read.1 ∙ neither.0)) ∙ neither.1)
 
-pub returns-in_default : goal.returns-in_default
-returns-in_default c =
+pub returns-in_default-keys_of_kind : goal.returns-in_default-keys_of_kind
+returns-in_default-keys_of_kind c =
     let lent : LentLists = record { marks = c.args.marks.now; starts = c.args.starts.now; ends = c.args.ends.now; tasks = c.args.tasks.now } in
-    let read = any_kind_in c.in-Ok.table c.args.file.now c.in-Ok.ensures in
-    let neither = any_kind_neither c.args.file.now read.0 (rw read.1 at c.in_default.ensures) in
+    let read = served c.args.file.now c.in-Ok.read c.in-Ok.ensures.reply c.in_default.is in
+    let neither = any_kind_neither c.args.file.now read.0 (rw read.1 at c.in_default-keys_of_kind.ensures.0) in
     let same = sym c.unwrap_err.ensures ∙ (c.window_answer.ensures ∙ (ap table_windows_answer read.1 ∙ neither.0)) in
-    let gives = refusal_gives c.args.launch c.args.file.now lent c.unwrap_err.result c.refused-in_default.result same c.refused-in_default.ensures in
+    let gives =
+    refusal_gives c.args.launch c.args.file.now lent c.unwrap_err.result c.refused-in_default-keys_of_kind.result same c.refused-in_default-keys_of_kind.ensures in
     record { count_value = gives.0; reply_value = gives.1.0; tasks_value = gives.1.1 }
 
 pub plan_table-planned-requires : goal.plan_table-planned-requires
 plan_table-planned-requires c =
     let file = c.args.file.now in
-    let read = any_kind_in c.in-Ok.table file c.in-Ok.ensures in
-    let accepted = any_kind_served file read.0 (rw read.1 at c.in-Some.ensures.planned_is) in
-    record { legal = subst⁻¹ Legal read.1 (read_legal file accepted); kind_found = c.in-Some.ensures }
+    let read = served file c.in-Ok.read c.in-Ok.ensures.reply c.in_default.is in
+    let accepted = any_kind_served file read.0 (rw read.1 at c.in-Ok-keys_of_kind.ensures.planned_is) in
+    record { legal = subst⁻¹ Legal read.1 (read_legal file accepted); kind_found = c.in-Ok-keys_of_kind.ensures }
 
 pub returns : goal.returns
 returns c =
     let lent : LentLists = record { marks = c.args.marks.now; starts = c.args.starts.now; ends = c.args.ends.now; tasks = c.args.tasks.now } in
     let file = c.args.file.now in
-    let read = any_kind_in c.in-Ok.table file c.in-Ok.ensures in
-    let accepted = any_kind_served file read.0 (rw read.1 at c.in-Some.ensures.planned_is) in
+    let read = served file c.in-Ok.read c.in-Ok.ensures.reply c.in_default.is in
+    let accepted = any_kind_served file read.0 (rw read.1 at c.in-Ok-keys_of_kind.ensures.planned_is) in
     record {
       count_value = ap (λ (t : Table). t.count) (read.1 ∙ table_accepted file accepted);
       reply_value = c.reply.ensures
