@@ -25,8 +25,13 @@ module _ (width : ℕ) where
       (λ b. pick_cases few (ends_wrong width s.line s.weighted.table.count (with_number s.current)) (λ d. tt) (λ d. omega arith))
       (λ b. omega arith)
 
-  pub next_line : (s : Scan) (byte : ℕ) (next : Scan) → Ok next ≡ step width s byte → next.line ≤ s.line + 1
+  next_line : (s : Scan) (byte : ℕ) (next : Scan) → Ok next ≡ step width s byte → next.line ≤ s.line + 1
   next_line s byte next e = rw (← e) at (step_line s byte)
+
+  -- so does the end of a line
+  pub next_ended : (s next : Scan) → Ok next ≡ end_line width s → next.line ≤ s.line + 1
+  unfolding step
+  next_ended s next e = next_line s newline next e
 
   -- After a wrong line nothing more is read.
   pub stays : (wrong : WrongLine) (bytes : List ℕ) → foldl (stepped width) (Err wrong) bytes ≡ Err wrong
@@ -64,17 +69,17 @@ module _ (width : ℕ) where
     read_all = rw (drop_of_length-le text whole) at h.left
 
     -- the first newline behind the text ends a wrong line,
-    pub first_wrong : (wrong : WrongLine) → Err wrong ≡ step width s newline → Err wrong ≡ scan_reply width text
-    unfolding scan_reply found stepped
+    pub first_wrong : (wrong : WrongLine) → Err wrong ≡ end_line width s → Err wrong ≡ scan_reply width text
+    unfolding scan_reply found stepped step
     first_wrong wrong e = rw (← read_all, ← e) refl
 
-    module _ (ended : Scan) (first : Ok ended ≡ step width s newline) where
+    module _ (ended : Scan) (first : Ok ended ≡ end_line width s) where
       -- or the second does,
-      pub second_wrong : (wrong : WrongLine) → Err wrong ≡ step width ended newline → Err wrong ≡ scan_reply width text
-      unfolding scan_reply found stepped
+      pub second_wrong : (wrong : WrongLine) → Err wrong ≡ end_line width ended → Err wrong ≡ scan_reply width text
+      unfolding scan_reply found stepped step
       second_wrong wrong e = rw (← read_all, ← first, ← e) refl
 
       -- or no line is wrong.
-      pub text_taken : (closed : Scan) → Ok closed ≡ step width ended newline → Ok closed.weighted ≡ scan_reply width text
-      unfolding scan_reply found stepped
+      pub text_taken : (closed : Scan) → Ok closed ≡ end_line width ended → Ok closed.weighted ≡ scan_reply width text
+      unfolding scan_reply found stepped step
       text_taken closed e = rw (← read_all, ← first, ← e) refl

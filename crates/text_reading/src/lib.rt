@@ -2,7 +2,7 @@
 // both: `width` is how many numbers the line of a task has.
 #![tactic(auto)]
 
-ghost use Rattle.std.specs.Prelude.{◌≡◌, ◌+◌, ◌^◌, ◌≤◌, ◌<◌};
+ghost use Rattle.std.specs.Prelude.{◌≡◌, ◌+◌, ◌^◌, ◌≤◌, ◌<◌, IfErr, MatchResult};
 ghost use Rattle.table.specs.Tables.{task_of};
 ghost use Rattle.table_text.specs.TableText.{due, parse_reply, about_task, refused_line};
 ghost use Rattle.table_text.specs.WeightedText.{weighted_parse_reply};
@@ -21,7 +21,7 @@ ghost use Rattle.text_reading.specs.Scanning.{
 };
 
 use base::MAX_TASKS;
-use lines::NEWLINE;
+use lines::{NEWLINE, NINE, ZERO};
 use table::{Table, Task};
 use table_text::WrongLine;
 use weighted_file::Weighted;
@@ -125,7 +125,7 @@ impl Line {
         ensures { result ≡ with_byte self byte }
     {
         match byte {
-            b'0'..=b'9' => self.with_digit(u32::from(byte - b'0')),
+            ZERO..=NINE => self.with_digit(u32::from(byte - ZERO)),
             b' ' | b'\t' | b'\r' => self.with_number(),
             _ => self.with_fault(),
         }
@@ -159,29 +159,27 @@ fn task_of(numbers: [u32; LINE_NUMBERS]) -> Task
     }
 }
 
-// The weighted table with what a line gives: line 1 gives task count, p and q, and line k + 2 gives the task at position k and its weight.
+// What a line gives, put into the weighted table in place: line 1 gives task count, p and q, and line k + 2 gives the task at position k and its weight.
 #[tactic(auto, using(std::proofs::lemmas::Bool::Decides::nat_tests), unfolding(crate::specs::Scanning::with_line))]
-fn with_line(weighted: Weighted, line: usize, numbers: [u32; LINE_NUMBERS]) -> Weighted
-    ensures { result ≡ with_line weighted line numbers }
+fn put_line(weighted: &mut Weighted, line: usize, numbers: [u32; LINE_NUMBERS])
+    ensures { weighted.new ≡ with_line weighted.old line numbers }
 {
-    let mut table = weighted.table;
-    let mut weights = weighted.weights;
+    let table = &mut weighted.table;
     if line <= 1 {
         table.count = numbers[0];
         table.p = numbers[1];
         table.q = numbers[2];
-        return Weighted { table, weights };
+        return;
     }
     if table.count as usize + 1 < line {
-        return weighted;
+        return;
     }
     let place = line - 2;
     if MAX_TASKS <= place {
-        return weighted;
+        return;
     }
     table.tasks[place] = task_of(numbers);
-    weights[place] = numbers[4];
-    Weighted { table, weights }
+    weighted.weights[place] = numbers[4];
 }
 
 impl Scan {
@@ -209,26 +207,28 @@ impl Scan {
         if ended.bad || ended.seen != due {
             return Err(WrongLine { line, due });
         }
+        let mut weighted = self.weighted;
+        put_line(&mut weighted, line, ended.numbers);
         Ok(Scan {
             line: line + 1,
-            weighted: with_line(self.weighted, line, ended.numbers),
+            weighted,
             current: Line::new(),
         })
     }
 
-    // A byte more of the text.
+    // A byte more of the text, read in place: one that is no newline changes only the line being read. Where a wrong line ends, nothing changes.
     #[tactic(auto, using(std::proofs::lemmas::Bool::Decides::nat_tests), unfolding(crate::specs::Scanning::step))]
-    fn step(self, width: usize, byte: u8) -> Result<Scan, WrongLine>
-        requires { self.line + 1 < 2 ^ 64 }
-        ensures { result ≡ step width self byte }
+    fn step(&mut self, width: usize, byte: u8) -> Result<(), WrongLine>
+        requires { self.old.line + 1 < 2 ^ 64 }
+        ensures reply { MatchResult result (λ _. Ok self.new ≡ step width self.old byte) (λ wrong. Err wrong ≡ step width self.old byte) }
+        ensures unchanged { IfErr result (λ _. self.new ≡ self.old) }
     {
         if byte == NEWLINE {
-            return self.end_line(width);
+            *self = self.end_line(width)?;
+            return Ok(());
         }
-        Ok(Scan {
-            current: self.current.with_byte(byte),
-            ..self
-        })
+        self.current = self.current.with_byte(byte);
+        Ok(())
     }
 }
 
@@ -241,10 +241,10 @@ fn scan_text(text: &[u8], width: usize) -> Result<Weighted, WrongLine>
 {
     let mut scan = Scan::new();
     for byte in text {
-        scan = scan.step(width, *byte)?;
+        scan.step(width, *byte)?;
     }
-    let ended = scan.step(width, NEWLINE)?;
-    let closed = ended.step(width, NEWLINE)?;
+    let ended = scan.end_line(width)?;
+    let closed = ended.end_line(width)?;
     Ok(closed.weighted)
 }
 

@@ -1,8 +1,7 @@
 use mathlib.Core.Path.{◌∙◌}
 use native.Mathlib.Omega.{arith}
 use Rattle.std.proofs.lemmas.Result.{err_from_is_err_and}
-use Rattle.lines.specs.Text.{newline}
-use Rattle.text_reading.proofs.ScanSteps.{next_line, scan_start, scan_next, scan_wrong, first_wrong, second_wrong, text_taken}
+use Rattle.text_reading.proofs.ScanSteps.{next_ended, scan_start, scan_next, scan_wrong, first_wrong, second_wrong, text_taken}
 use Rattle.text_reading.proofs.ScanLaws.{scan_parsed}
 use Rattle.text_reading.proofs.scan_text.Goals as goal
 
@@ -10,15 +9,15 @@ pub loop-byte-init : goal.loop-byte-init
 loop-byte-init c =
     scan_start _ _ _ c.new-scan.ensures
 
-pub returns-in_err-scan : goal.returns-in_err-scan
-returns-in_err-scan c =
+pub returns-in_err-step : goal.returns-in_err-step
+returns-in_err-step c =
     let p = err_from_is_err_and c.from_residual.result c.from_residual.ensures.1 in
     rw (p.1, p.2)
-    (scan_wrong _ _ _ _ c.loop-byte-test.true c.loop-byte.invariant _ c.in_err-scan.ensures ∙ scan_parsed _ (omega arith) (omega arith) _)
+    (scan_wrong _ _ _ _ c.loop-byte-test.true c.loop-byte.invariant _ c.in_err-step.ensures.reply ∙ scan_parsed _ (omega arith) (omega arith) _)
 
 pub loop-byte-preserved : goal.loop-byte-preserved
 loop-byte-preserved c =
-    scan_next _ _ _ _ c.loop-byte-test.true c.loop-byte.invariant _ c.in_ok-scan.ensures
+    scan_next _ _ _ _ c.loop-byte-test.true c.loop-byte.invariant _ c.in_ok-step.ensures.reply
 
 pub returns-in_err-ended : goal.returns-in_err-ended
 returns-in_err-ended c =
@@ -26,9 +25,9 @@ returns-in_err-ended c =
     rw (p.1, p.2)
     (first_wrong _ _ _ _ c.loop-byte-test.false c.loop-byte.invariant _ c.in_err-ended.ensures ∙ scan_parsed _ (omega arith) (omega arith) _)
 
-pub step-requires-3 : goal.step-requires-3
-step-requires-3 c =
-    omega (arith, next_line _ _ newline _ c.in_ok-ended.ensures)
+pub end_line-requires-2 : goal.end_line-requires-2
+end_line-requires-2 c =
+    omega (arith, next_ended _ _ _ c.in_ok-ended.ensures)
 
 pub returns-in_err-closed : goal.returns-in_err-closed
 returns-in_err-closed c =
