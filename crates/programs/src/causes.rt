@@ -5,13 +5,17 @@ pub const NEITHER_KIND: &[u8] = b"the windows up to this task neither nest nor f
 
 pub const NOT_NESTED: &[u8] = b"the windows up to this task do not nest";
 
-// What a refusal's number means, where `windows` is what 7 means.
+// The same as the end of a line of errors that tells a place.
+pub const NEITHER_KIND_END: &[u8] =
+    b"the windows up to this task neither nest nor follow one another (the place is the task's position)\n";
+
+pub const NOT_NESTED_END: &[u8] =
+    b"the windows up to this task do not nest (the place is the task's position)\n";
+
+// What the number of a refusal of writing means, where `windows` is what 7 means.
 pub fn cause(number: u32, windows: &[u8]) -> &[u8] {
     match number {
-        1 => b"fewer bytes than the table needs",
         2 => b"task count 0 or above 64",
-        3 => b"more bytes than the task count needs",
-        4 => b"a padding bit is set",
         5 => b"p or q is 0 or above 4,095, or p below q",
         6 => b"release frame not below deadline frame",
         12 => b"a number is too large for its field: frames go to 131,071, ticks to 16,383",
@@ -20,12 +24,17 @@ pub fn cause(number: u32, windows: &[u8]) -> &[u8] {
     }
 }
 
-// What the place of a refusal of reading means, behind the cause.
-pub fn place(number: u32) -> &'static [u8] {
+// The end of the line of errors on a refusal of reading: what its number means, what its place means, and the newline, where `windows` is that of 7. It is one
+// byte string, so that one write puts it.
+pub fn line_end(number: u32, windows: &[u8]) -> &[u8] {
     match number {
-        1 => b" (the place is the file's length)",
-        3 => b" (the place is the length needed)",
-        6 | 7 | 16 => b" (the place is the task's position)",
-        _ => b"",
+        1 => b"fewer bytes than the table needs (the place is the file's length)\n",
+        2 => b"task count 0 or above 64\n",
+        3 => b"more bytes than the task count needs (the place is the length needed)\n",
+        4 => b"a padding bit is set\n",
+        5 => b"p or q is 0 or above 4,095, or p below q\n",
+        6 => b"release frame not below deadline frame (the place is the task's position)\n",
+        16 => b"a weight is 0 or above 15 (the place is the task's position)\n",
+        _ => windows,
     }
 }

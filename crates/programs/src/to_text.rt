@@ -4,21 +4,19 @@
 ghost use Rattle.std.specs.Prelude.{◌≤◌, length};
 
 use crate::causes;
-use crate::causes::{NEITHER_KIND, NOT_NESTED};
+use crate::causes::{NEITHER_KIND_END, NOT_NESTED_END};
 use conversion::{MAX_TABLE_TEXT, MAX_WEIGHTED_TEXT};
 use table::{FILE_BYTES_READ, Written};
 use weighted_file::WEIGHTED_BYTES_READ;
 
-// The one line of errors: a refusal's number and place, and its cause, where `windows` is what 7 means.
+// The one line of errors: a refusal's number and place, and its cause, where `windows` is the line's end of 7.
 fn refused(reply: Written, windows: &[u8], errors: i32) {
     io::write_all(errors, b"refused, number ");
     io::print_decimal(errors, u64::from(reply.number));
     io::write_all(errors, b", place ");
     io::print_decimal(errors, reply.place as u64);
     io::write_all(errors, b": ");
-    io::write_all(errors, causes::cause(reply.number, windows));
-    io::write_all(errors, causes::place(reply.number));
-    io::write_all(errors, b"\n");
+    io::write_all(errors, causes::line_end(reply.number, windows));
 }
 
 // Writes the text that a file was shown as, or the one line of errors.
@@ -38,7 +36,7 @@ pub fn table_to_text(input: i32, output: i32, errors: i32) {
     let filled = io::read_full(input, &mut first);
     let mut text = [0u8; MAX_TABLE_TEXT];
     let reply = conversion::to_text_from_first(first, filled, &mut text);
-    write_shown(reply, &text, NEITHER_KIND, output, errors);
+    write_shown(reply, &text, NEITHER_KIND_END, output, errors);
 }
 
 // Shows the weighted file of an input as text, or says why not.
@@ -47,5 +45,5 @@ pub fn weighted_to_text(input: i32, output: i32, errors: i32) {
     let filled = io::read_full(input, &mut first);
     let mut text = [0u8; MAX_WEIGHTED_TEXT];
     let reply = conversion::weighted_to_text_from_first(first, filled, &mut text);
-    write_shown(reply, &text, NOT_NESTED, output, errors);
+    write_shown(reply, &text, NOT_NESTED_END, output, errors);
 }

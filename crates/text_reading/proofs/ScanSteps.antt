@@ -25,7 +25,7 @@ module _ (width : ℕ) where
       (λ b. pick_cases few (ends_wrong width s.line s.weighted.table.count (with_number s.current)) (λ d. tt) (λ d. omega arith))
       (λ b. omega arith)
 
-  next_line : (s : Scan) (byte : ℕ) (next : Scan) → Ok next ≡ step width s byte → next.line ≤ s.line + 1
+  pub next_line : (s : Scan) (byte : ℕ) (next : Scan) → Ok next ≡ step width s byte → next.line ≤ s.line + 1
   next_line s byte next e = rw (← e) at (step_line s byte)
 
   -- so does the end of a line
