@@ -1,4 +1,4 @@
--- The kind that a table is planned as, and what is found of it.
+-- For the proofs of the code alone: the kind that a table is planned as, and what is found of it.
 use Rattle.std.specs.Prelude.{ℕ, List, Bool, true, false, ◌≡◌, Result, MatchResult}
 use Rattle.base.specs.Tests.{or}
 use Rattle.table.specs.declared.Table.{Table}

@@ -1,4 +1,5 @@
--- What planning refuses: for each case the number and the place, and the reply. And what it refuses of jobs before they are planned.
+-- For the proofs of the code alone: what planning refuses, for each case the number and the place, and the reply; and what it refuses of jobs before they are
+-- planned.
 use Rattle.std.specs.Prelude.{ℕ, List, Bool, length, ◌≡◌, ◌≢◌, Result, Ok, Err, MatchResult}
 use Rattle.table.specs.Answers.{refusal_number, refusal_place}
 use Rattle.schedule.specs.declared.Job.{Job}
