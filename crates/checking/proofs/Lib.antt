@@ -1,1 +1,2 @@
 pub mod OrderLaws
+pub mod PointLaws

@@ -1,2 +1,1 @@
 pub mod HalvingLaws
-pub mod PointLaws

@@ -4,7 +4,7 @@ use Rattle.std.proofs.lemmas.Result.{err_from_is_err_and}
 use Rattle.schedule.specs.Runs.{run_holds}
 use Rattle.schedule.specs.RunCheck.{Accepted, check_answer}
 use Rattle.schedule.proofs.QueryLaws.{holds_tick}
-use Rattle.queries.proofs.PointLaws.{ending_place, held_found, copied_there, refused}
+use Rattle.checking.proofs.PointLaws.{ending_place, held_found, copied_there, refused}
 use Rattle.queries.proofs.run_at.Goals as goal
 
 pub returns-in_err-check-clause-reply : goal.returns-in_err-check-clause-reply

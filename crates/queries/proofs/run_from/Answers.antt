@@ -4,7 +4,7 @@ use Rattle.std.proofs.lemmas.Result.{err_from_is_err_and}
 use Rattle.schedule.specs.RunCheck.{Accepted, check_answer}
 use Rattle.schedule.specs.Queries.{starts_from_tick}
 use Rattle.schedule.proofs.QueryLaws.{first_from_lem}
-use Rattle.queries.proofs.PointLaws.{starting_place, next_found, copied_there, refused}
+use Rattle.checking.proofs.PointLaws.{starting_place, next_found, copied_there, refused}
 use Rattle.queries.proofs.run_from.Goals as goal
 
 pub returns-in_err-check-clause-reply : goal.returns-in_err-check-clause-reply

@@ -1,5 +1,5 @@
 -- What a search by halving finds in a run list that the check accepts is where the definitions look.
-use Prim.Native.Nat.{ℕ, ◌+◌, ◌≤◌}
+use Prim.Native.Nat.{ℕ, ◌+◌, ◌-◌, ◌≤◌, ◌<◌}
 use mathlib.Core.Path.{◌≡◌, sym, ap, ◌∙◌}
 use mathlib.Core.List.{List}
 use mathlib.Core.Bool.{Bool, true, false, not}
@@ -7,7 +7,7 @@ use native.Mathlib.Omega.{arith}
 use native.Mathlib.Decide.{dec_lt}
 use lib.Dec.{leb, ltb}
 use lib.ListN.{length, get_or}
-use borrow.Author.Tests.{leb-true, leb-false, le-leb, lt-leb, lt-ltb, le-ltb}
+use borrow.Author.Tests.{leb-true, leb-false, le-leb, lt-leb, lt-ltb, le-ltb, eq-eqb, ne_eqb}
 use denote.Param.Members.{Mut}
 use denote.Ref.{Bor}
 use Rattle.std.specs.Prelude.{Option, Some, None, Ok, Err, MatchOption, slice_get, option_copied}
@@ -24,24 +24,27 @@ use Rattle.schedule.specs.declared.Run.{Run}
 use Rattle.schedule.specs.Runs.{no_run}
 use Rattle.schedule.specs.RunCheck.{Accepted, check_answer}
 use Rattle.schedule.specs.declared.RunsRefusal.{RunsRefusal}
-use Rattle.schedule.specs.Queries.{found_first, run_at_tick, run_from_tick}
+use Rattle.schedule.specs.declared.Stretch.{Stretch}
+use Rattle.schedule.specs.Queries.{found_first, run_at_tick, run_from_tick, touches, stretch_of}
 use Rattle.schedule.proofs.CheckLaws.{accepted_order, starts_rise, ends_rise}
 use Rattle.schedule.proofs.SearchLaws.{first_ending, first_starting, at-found, at_ended, at-not-begun, from_found, from-started}
+use Rattle.schedule.proofs.StretchLaws.{Stretched, interval_stretched, stretch_is}
+use Rattle.schedule.proofs.QueryLaws.{touching_none}
 
--- where a test parts a list into the runs that pass and those that fail, the first that fails stands at the lowest such index
-point_lowest : (test : Run → Bool) (fails : ℕ → Bool) (runs : List Run) (i : ℕ) → i ≤ length runs
-    → IsPartitionPoint (λ run. test run ≡ true) (λ run. test run ≡ false) runs i
-    → ((k : ℕ) → fails k ≡ not (test (get_or runs k no_run))) → i ≡ lowest fails (length runs)
-point_lowest test fails runs i l p same =
-    let n = length runs in
+-- where a test parts a list into the elements that pass and those that fail, the first that fails stands at the lowest such index
+point_lowest : {X : Type 0} (none : X) (test : X → Bool) (fails : ℕ → Bool) (xs : List X) (i : ℕ) → i ≤ length xs
+    → IsPartitionPoint (λ x. test x ≡ true) (λ x. test x ≡ false) xs i
+    → ((k : ℕ) → fails k ≡ not (test (get_or xs k none))) → i ≡ lowest fails (length xs)
+point_lowest none test fails xs i l p same =
+    let n = length xs in
     let bound : lowest fails n ≤ n = lowest_bound fails n in
     elim (dec_lt (lowest fails n) i) [
       | yes m ↦
           both_absurd (fails (lowest fails n)) (passes fails n (omega arith))
-          (same (lowest fails n) ∙ ap not (p.0 (lowest fails n) no_run (omega arith) m))
+          (same (lowest fails n) ∙ ap not (p.0 (lowest fails n) none (omega arith) m))
       | no m ↦
           elim (dec_lt i (lowest fails n)) [
-            | yes q ↦ both_absurd (fails i) (same i ∙ ap not (p.1 i no_run (omega arith) (omega arith))) (before fails n i q)
+            | yes q ↦ both_absurd (fails i) (same i ∙ ap not (p.1 i none (omega arith) (omega arith))) (before fails n i q)
             | no q ↦ omega arith
           ]
     ]
@@ -61,33 +64,38 @@ from_not tick start =
       | no l ↦ rw (le-leb tick start (omega arith), le-ltb start tick (omega arith))
     ]
 
+-- Numbers of a list do not fall with the index, so these tests part it, and `partition_point`, whose closure f makes the test, answers the first index whose
+-- number is after the tick, or is the tick or after it.
+module _ {X : Type 0} (none : X) (number : X → ℕ) (xs : List X)
+    (rise : (i k : ℕ) → i ≤ k → k < length xs → number (get_or xs i none) ≤ number (get_or xs k none))
+    {F : Type 0} {g : Mut F (Bor X × Unit {0}) Bool} {f : F} (tick i : ℕ) (within : i ≤ length xs)
+    (parted : (q : X → Bool) → ComputesKey g q f → IsPartitionedBy q xs → IsPartitionPoint (λ x. q x ≡ true) (λ x. q x ≡ false) xs i) where
+  pub place_after : ((a : Bor X × Unit {0}) (r : Bool) (f' : F) → Called g f a r f' → (r ≡ leb (number a.0.now) tick) × (f' ≡ f))
+      → i ≡ lowest (λ k. leb (tick + 1) (number (get_or xs k none))) (length xs)
+  place_after h =
+      point_lowest none (λ x. leb (number x) tick) (λ k. leb (tick + 1) (number (get_or xs k none))) xs i within
+      (IsPartitionPoint-from_clause (λ x. leb (number x) tick) xs i parted
+      (IsPartitionedBy-leb number xs tick (IsNonDecreasingBy-from_default number xs none rise)) h)
+      (λ k. after_not tick (number (get_or xs k none)))
+
+  pub place_from : ((a : Bor X × Unit {0}) (r : Bool) (f' : F) → Called g f a r f' → (r ≡ ltb (number a.0.now) tick) × (f' ≡ f))
+      → i ≡ lowest (λ k. leb tick (number (get_or xs k none))) (length xs)
+  place_from h =
+      point_lowest none (λ x. ltb (number x) tick) (λ k. leb tick (number (get_or xs k none))) xs i within
+      (IsPartitionPoint-from_clause (λ x. ltb (number x) tick) xs i parted
+      (IsPartitionedBy-ltb number xs tick (IsNonDecreasingBy-from_default number xs none rise)) h)
+      (λ k. from_not tick (number (get_or xs k none)))
+
 module _ (runs : List Run) (accepted : check_answer runs ≡ Accepted) where
-  -- starts and ends rise, so these tests part the list
-  ends_parted : (tick : ℕ) → IsPartitionedBy (λ (run : Run). leb run.end tick) runs
-  ends_parted tick =
-      IsPartitionedBy-leb (λ (run : Run). run.end) runs tick
-      (IsNonDecreasingBy-from_default (λ (run : Run). run.end) runs no_run (ends_rise runs (accepted_order runs accepted)))
-
-  starts_parted : (tick : ℕ) → IsPartitionedBy (λ (run : Run). ltb run.start tick) runs
-  starts_parted tick =
-      IsPartitionedBy-ltb (λ (run : Run). run.start) runs tick
-      (IsNonDecreasingBy-from_default (λ (run : Run). run.start) runs no_run (starts_rise runs (accepted_order runs accepted)))
-
-  -- so `partition_point`, whose closure f makes the test, answers the first index whose run ends after the tick, or starts at it or after it
+  -- of an accepted list starts and ends rise, so of its runs it answers the first that ends after the tick, or starts at it or after it
   module _ {F : Type 0} {g : Mut F (Bor Run × Unit {0}) Bool} {f : F} (tick i : ℕ) (within : i ≤ length runs)
       (parted : (q : Run → Bool) → ComputesKey g q f → IsPartitionedBy q runs → IsPartitionPoint (λ run. q run ≡ true) (λ run. q run ≡ false) runs i) where
     pub ending_place : ((a : Bor Run × Unit {0}) (r : Bool) (f' : F) → Called g f a r f' → (r ≡ leb a.0.now.end tick) × (f' ≡ f)) → i ≡ first_ending runs tick
-    ending_place h =
-        point_lowest (λ run. leb run.end tick) (λ k. leb (tick + 1) (get_or runs k no_run).end) runs i within
-        (IsPartitionPoint-from_clause (λ (run : Run). leb run.end tick) runs i parted (ends_parted tick) h)
-        (λ k. after_not tick (get_or runs k no_run).end)
+    ending_place h = place_after no_run (λ (run : Run). run.end) runs (ends_rise runs (accepted_order runs accepted)) tick i within parted h
 
     pub starting_place : ((a : Bor Run × Unit {0}) (r : Bool) (f' : F) → Called g f a r f' → (r ≡ ltb a.0.now.start tick) × (f' ≡ f))
         → i ≡ first_starting runs tick
-    starting_place h =
-        point_lowest (λ run. ltb run.start tick) (λ k. leb tick (get_or runs k no_run).start) runs i within
-        (IsPartitionPoint-from_clause (λ (run : Run). ltb run.start tick) runs i parted (starts_parted tick) h)
-        (λ k. from_not tick (get_or runs k no_run).start)
+    starting_place h = place_from no_run (λ (run : Run). run.start) runs (starts_rise runs (accepted_order runs accepted)) tick i within parted h
 
   -- the run found behind those that have ended, kept where it has begun, is the one that holds the tick
   pub held_found : (tick i : ℕ) (there kept : Option Run) → i ≡ first_ending runs tick → there ≡ slice_get runs i
@@ -134,3 +142,22 @@ copied_there runs i (Some run) p = ap Some (p.3.1 no_run) ∙ sym (slice_get-get
 pub refused : (test : Run → Bool) (runs : List Run) (refusal : RunsRefusal) → Err refusal ≡ check_answer runs → Err refusal ≡ found_first test runs
 unfolding found_first
 refused test runs refusal e = rw (← e)
+
+-- The stretch of the runs that share a tick with an interval.
+
+-- of an empty interval it is empty
+pub none_interval : (runs : List Run) (a b : ℕ) → b ≤ a → ◌≡◌ {A = Stretch} (record { first = 0; runs = 0 }) (stretch_of runs a b)
+unfolding stretch_of
+none_interval runs a b h = rw (touching_none runs a b h)
+
+module _ (runs : List Run) (a b : ℕ) (accepted : check_answer runs ≡ Accepted) (h : a < b) (first end : ℕ) (f : first ≡ first_ending runs a)
+    (e : end ≡ first_starting runs b) where
+  -- where the runs stand, by the places that the two searches find
+  stands : Stretched (touches a b) runs first (end - first)
+  stands = rw (f, e) (interval_stretched runs a b accepted h)
+
+  pub none_between : end ≤ first → ◌≡◌ {A = Stretch} (record { first = 0; runs = 0 }) (stretch_of runs a b)
+  none_between l = sym (rw (eq-eqb (end - first) 0 (omega arith)) at (stretch_is runs a b first (end - first) accepted stands))
+
+  pub some_between : first < end → ◌≡◌ {A = Stretch} (record { first = first; runs = end - first }) (stretch_of runs a b)
+  some_between l = sym (rw (ne_eqb (end - first) 0 (λ z. omega arith)) at (stretch_is runs a b first (end - first) accepted stands))
