@@ -1,11 +1,37 @@
-// The busy count of an interval (an entry point): the ticks of the interval that some run holds, added run by run over a list that the check accepts.
+// The busy count of an interval (an entry point): the ticks of the interval that some run holds, added run by run over a list that the check accepts. The
+// list is lent as one, or in columns, as a planner writes it.
 #![tactic(auto)]
 
-ghost use Rattle.std.specs.Prelude.{◌≡◌, ◌<◌, ◌^◌};
-ghost use Rattle.std.specs.List.{sum_by};
+ghost use Rattle.std.specs.Prelude.{◌≡◌, ◌<◌, ◌^◌, length};
+ghost use Rattle.std.specs.List.{sum_by, zip};
+ghost use Rattle.schedule.specs.Runs.{run_of};
+ghost use Rattle.schedule.specs.LentRuns.{OneLength, runs_before};
+ghost use Rattle.schedule.specs.RunCheck.{refusal_number, refusal_place};
 ghost use Rattle.schedule.specs.BusyCount.{shared, busy_reply, CountsTicks};
 
-use schedule::{Busy, Run};
+use schedule::{Busy, Run, RunsRefusal};
+
+// The reply of so many ticks.
+fn counted(ticks: u32) -> Busy
+    ensures { result ≡ record { number = 0; place = 0; ticks = ticks } }
+{
+    Busy {
+        number: 0,
+        place: 0,
+        ticks: u64::from(ticks),
+    }
+}
+
+// The reply of what the check refuses.
+fn refused(refusal: RunsRefusal) -> Busy
+    ensures { result ≡ record { number = refusal_number refusal; place = refusal_place refusal; ticks = 0 } }
+{
+    Busy {
+        number: refusal.number(),
+        place: refusal.place(),
+        ticks: 0,
+    }
+}
 
 // The ticks that a run shares with the interval from `a` to `b`: from the later start to the earlier end.
 fn shared_ticks(run: Run, a: u32, b: u32) -> u32
@@ -29,15 +55,37 @@ pub fn busy(runs: &[Run], a: u32, b: u32) -> Busy
     ensures counts_ticks { CountsTicks runs.now a b result }
 {
     match checking::check(runs) {
-        Ok(()) => Busy {
-            number: 0,
-            place: 0,
-            ticks: u64::from(all_shared(runs, a, b)),
-        },
-        Err(refusal) => Busy {
-            number: refusal.number(),
-            place: refusal.place(),
-            ticks: 0,
-        },
+        Ok(()) => counted(all_shared(runs, a, b)),
+        Err(refusal) => refused(refusal),
+    }
+}
+
+// The ticks that all runs share with the interval, of runs that stand in columns. Their tasks play no part in it.
+fn shared_of_columns(starts: &[u32], ends: &[u32], a: u32, b: u32) -> u32
+    requires { sum_by (λ x. shared a b (run_of x.0 x.1 0)) (zip starts.now ends.now) < 2 ^ 32 }
+    ensures { result ≡ sum_by (λ x. shared a b (run_of x.0 x.1 0)) (zip starts.now ends.now) }
+{
+    starts
+        .iter()
+        .zip(ends)
+        .map(|(start, end)| {
+            let run = Run {
+                start: *start,
+                end: *end,
+                task: 0,
+            };
+            shared_ticks(run, a, b)
+        })
+        .sum()
+}
+
+// The busy count of runs that stand in three columns of one length: the reply of the run list that they are. Nothing is copied.
+pub fn busy_columns(starts: &[u32], ends: &[u32], tasks: &[u32], a: u32, b: u32) -> Busy
+    requires { OneLength starts ends tasks }
+    ensures { result ≡ busy_reply (runs_before starts ends tasks) a b }
+{
+    match checking::check_columns(starts, ends) {
+        Ok(()) => counted(shared_of_columns(starts, ends, a, b)),
+        Err(refusal) => refused(refusal),
     }
 }
