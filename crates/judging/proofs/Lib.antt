@@ -1,2 +1,3 @@
 pub mod ReadingLaws
 pub mod ListLaws
+pub mod PassLaws

@@ -1,4 +1,5 @@
-// Judging a keep list and a run list (an entry point): one pass over the runs and a few over the tasks, in a fixed amount of memory.
+// Judging a keep list and a run list (an entry point): one pass over the runs and a few over the tasks, in a fixed amount of memory. The runs are lent as a
+// list, or in columns, as a planner writes them; they are read where they stand.
 #![tactic(auto)]
 
 ghost use Rattle.std.specs.Prelude.{◌≡◌, ◌≤◌, ◌<◌, eqb, ltb, length, get_or, MatchOption, position, count_by, Ok, Err};
@@ -12,10 +13,12 @@ ghost use Rattle.table.specs.LegalReads.{LegalRead, taken_from};
 ghost use Rattle.schedule.specs.Jobs.{work_of, counts};
 ghost use Rattle.schedule.specs.JobArrays.{no_job};
 ghost use Rattle.schedule.specs.Ticks.{count_below};
-ghost use Rattle.schedule.specs.Judging.{first_bad_mark, judge_table, judge_reply, Sound};
+ghost use Rattle.schedule.specs.LentRuns.{OneLength, runs_before};
+ghost use Rattle.schedule.specs.Judging.{first_bad_mark, judge_declined, judge_table, judge_reply, Sound};
 ghost use Rattle.schedule.specs.Passing.{run_fits, Passed, verdict_by_pass};
 ghost use Rattle.judging.specs.declared.JudgeRefusal.TheVariants.{File};
 ghost use Rattle.judging.specs.Refusals.{judge_number, judge_place, judged_of};
+ghost use Rattle.judging.specs.Lending.{lent_runs, LentWhole};
 
 use base::MAX_TASKS;
 use schedule::{Job, Judged, Run};
@@ -74,6 +77,24 @@ enum Verdict {
     No,
 }
 
+// Runs that are lent: a list of them, or three columns of one length, of their starts, ends and tasks.
+#[derive(Clone, Copy)]
+enum Lent<'a> {
+    Records(&'a [Run]),
+    Columns(&'a [u32], &'a [u32], &'a [u32]),
+}
+
+// How many runs are lent.
+fn lent_count(runs: Lent) -> usize
+    requires { LentWhole runs }
+    ensures { result ≡ length (lent_runs runs.entry) }
+{
+    match runs {
+        Lent::Records(runs) => runs.len(),
+        Lent::Columns(starts, _, _) => starts.len(),
+    }
+}
+
 // The reply of a verdict, with its counts.
 fn says(verdict: Verdict) -> Judged
     ensures { result ≡ judged_of (Ok verdict) }
@@ -91,17 +112,24 @@ fn says(verdict: Verdict) -> Judged
     }
 }
 
-// The reply of a refusal.
-fn declined(refusal: JudgeRefusal) -> Judged
-    ensures { result ≡ judged_of (Err refusal) }
+// The reply of a refusal, by its number and its place.
+pub fn declined(number: u32, place: usize) -> Judged
+    ensures { result ≡ judge_declined number place }
 {
     Judged {
-        number: refusal.number(),
-        place: refusal.place(),
+        number,
+        place,
         yes: false,
         kept: 0,
         discarded: 0,
     }
+}
+
+// The reply of a refusal.
+fn refused(refusal: JudgeRefusal) -> Judged
+    ensures { result ≡ judged_of (Err refusal) }
+{
+    declined(refusal.number(), refusal.place())
 }
 
 // The reply of a judge by what it comes to: a verdict, or why it refuses. Judged is schedule's type, so that it can have no From here.
@@ -110,7 +138,7 @@ fn reply(judged: Result<Verdict, JudgeRefusal>) -> Judged
 {
     match judged {
         Ok(verdict) => says(verdict),
-        Err(refusal) => declined(refusal),
+        Err(refusal) => refused(refusal),
     }
 }
 
@@ -149,6 +177,50 @@ fn pass_runs(jobs: &[Job], runs: &[Run]) -> Option<[u64; MAX_TASKS]>
     Some(totals)
 }
 
+// The same pass over runs that stand in columns.
+fn pass_columns(
+    jobs: &[Job],
+    starts: &[u32],
+    ends: &[u32],
+    tasks: &[u32],
+) -> Option<[u64; MAX_TASKS]>
+    requires jobs_len { length jobs.now ≤ max_tasks }
+    requires one_length { OneLength starts ends tasks }
+    requires runs_len { length starts.now ≤ max_runs }
+    ensures { Passed (λ k. get_or jobs.now k no_job) (length jobs.now) (runs_before starts ends tasks) result }
+{
+    let mut totals = [0u64; MAX_TASKS];
+    let mut from: u32 = 0;
+    for (i, start) in starts.iter().enumerate() {
+        let run = Run {
+            start: *start,
+            end: ends[i],
+            task: tasks[i],
+        };
+        let k = run.task as usize;
+        let job = jobs.get(k)?;
+        if !run_fits(*job, from, run) {
+            return None;
+        }
+        totals[k] += u64::from(run.end - run.start);
+        from = ends[i];
+    }
+    Some(totals)
+}
+
+// The pass over runs that are lent.
+fn pass_lent(jobs: &[Job], runs: Lent) -> Option<[u64; MAX_TASKS]>
+    requires jobs_len { length jobs.now ≤ max_tasks }
+    requires whole { LentWhole runs }
+    requires runs_len { length (lent_runs runs) ≤ max_runs }
+    ensures { Passed (λ k. get_or jobs.now k no_job) (length jobs.now) (lent_runs runs.entry) result }
+{
+    match runs {
+        Lent::Records(runs) => pass_runs(jobs, runs),
+        Lent::Columns(starts, ends, tasks) => pass_columns(jobs, starts, ends, tasks),
+    }
+}
+
 // The work of a job under a mark: its mandatory ticks, plus its optional ticks where kept.
 fn work(job: Job, mark: u8) -> u64
     ensures { result ≡ work_of job mark }
@@ -179,13 +251,14 @@ fn count_marked(jobs: &[Job], marks: &[u8], mark: u8) -> u32
 }
 
 // All five conditions of a yes.
-fn verdict_of(jobs: &[Job], marks: &[u8], runs: &[Run]) -> bool
+fn verdict_of(jobs: &[Job], marks: &[u8], runs: Lent) -> bool
     requires jobs_len { length jobs.now ≤ max_tasks }
     requires marks_len { length marks.now ≡ length jobs.now }
-    requires runs_len { length runs.now ≤ max_runs }
-    ensures { result ≡ verdict_by_pass (λ k. get_or jobs.now k no_job) (length jobs.now) marks.now runs.now }
+    requires whole { LentWhole runs }
+    requires runs_len { length (lent_runs runs) ≤ max_runs }
+    ensures { result ≡ verdict_by_pass (λ k. get_or jobs.now k no_job) (length jobs.now) marks.now (lent_runs runs.entry) }
 {
-    match pass_runs(jobs, runs) {
+    match pass_lent(jobs, runs) {
         Some(totals) => totals_exact(jobs, marks, &totals),
         None => false,
     }
@@ -196,10 +269,11 @@ fn table_verdict(
     table: Table,
     launch: u32,
     marks: &[u8],
-    runs: &[Run],
+    runs: Lent,
 ) -> Result<Verdict, JudgeRefusal>
-    requires { Legal table }
-    ensures { judged_of result ≡ judge_table launch table marks.now runs.now }
+    requires legal { Legal table }
+    requires whole { LentWhole runs }
+    ensures { judged_of result ≡ judge_table launch table marks.now (lent_runs runs.entry) }
 {
     if clock::bad_launch(launch) {
         return Err(JudgeRefusal::Launch);
@@ -211,7 +285,7 @@ fn table_verdict(
     if let Some(bad) = first_bad_mark(marks) {
         return Err(JudgeRefusal::Marks(bad));
     }
-    if schedule::too_many(runs.len()) {
+    if schedule::too_many(lent_count(runs)) {
         return Err(JudgeRefusal::TooManyRuns);
     }
     let all = schedule::jobs_of(table, launch);
@@ -229,13 +303,32 @@ fn reading_verdict(
     read: Result<Table, Refusal>,
     launch: u32,
     marks: &[u8],
-    runs: &[Run],
+    runs: Lent,
 ) -> Result<Verdict, JudgeRefusal>
-    requires { LegalRead (taken_from read) }
-    ensures { judged_of result ≡ judge_reply launch (taken_from read) marks.now runs.now }
+    requires legal { LegalRead (taken_from read) }
+    requires whole { LentWhole runs }
+    ensures { judged_of result ≡ judge_reply launch (taken_from read) marks.now (lent_runs runs.entry) }
 {
     let table = read?;
     table_verdict(table, launch, marks, runs)
+}
+
+// Judging on the table of an accepted file by runs that are lent. Every judge of a table calls it.
+fn judged_table(table: Table, launch: u32, marks: &[u8], runs: Lent) -> Judged
+    requires legal { Legal table }
+    requires whole { LentWhole runs }
+    ensures { result ≡ judge_table launch table marks.now (lent_runs runs.entry) }
+{
+    reply(table_verdict(table, launch, marks, runs))
+}
+
+// Judging on what was read of a file by runs that are lent. Every judge of a file calls it.
+fn judged_reading(read: Result<Table, Refusal>, launch: u32, marks: &[u8], runs: Lent) -> Judged
+    requires legal { LegalRead (taken_from read) }
+    requires whole { LentWhole runs }
+    ensures { result ≡ judge_reply launch (taken_from read) marks.now (lent_runs runs.entry) }
+{
+    reply(reading_verdict(read, launch, marks, runs))
 }
 
 // Judging on the table of an accepted file, of whatever form.
@@ -243,10 +336,27 @@ pub fn judge_table(table: Table, launch: u32, marks: &[u8], runs: &[Run]) -> Jud
     requires { Legal table }
     ensures { result ≡ judge_table launch table marks.now runs.now }
 {
-    reply(table_verdict(table, launch, marks, runs))
+    judged_table(table, launch, marks, Lent::Records(runs))
 }
 
-// Judging on what was read of a file of whatever form. All judges call it.
+// Judging on the table of an accepted file, of whatever form, by runs that stand in three columns of one length.
+pub fn judge_table_columns(
+    table: Table,
+    launch: u32,
+    marks: &[u8],
+    starts: &[u32],
+    ends: &[u32],
+    tasks: &[u32],
+) -> Judged
+    requires legal { Legal table }
+    requires one_length { OneLength starts ends tasks }
+    ensures { result ≡ judge_table launch table marks.now (runs_before starts ends tasks) }
+{
+    let runs = Lent::Columns(starts, ends, tasks);
+    judged_table(table, launch, marks, runs)
+}
+
+// Judging on what was read of a file of whatever form. All judges of run records call it.
 pub fn judge_reading(
     read: Result<Table, Refusal>,
     launch: u32,
@@ -256,7 +366,39 @@ pub fn judge_reading(
     requires { LegalRead (taken_from read) }
     ensures { result ≡ judge_reply launch (taken_from read) marks.now runs.now }
 {
-    reply(reading_verdict(read, launch, marks, runs))
+    judged_reading(read, launch, marks, Lent::Records(runs))
+}
+
+// Judging on what was read of a file of whatever form, by runs that stand in three columns of one length: reading's refusals, then those of its table. All
+// judges of columns call it.
+pub fn judge_reading_columns(
+    read: Result<Table, Refusal>,
+    launch: u32,
+    marks: &[u8],
+    starts: &[u32],
+    ends: &[u32],
+    tasks: &[u32],
+) -> Judged
+    requires legal_read { LegalRead (taken_from read) }
+    requires one_length { OneLength starts ends tasks }
+    ensures { result ≡ judge_reply launch (taken_from read) marks.now (runs_before starts ends tasks) }
+{
+    judged_reading(read, launch, marks, Lent::Columns(starts, ends, tasks))
+}
+
+// Judging a file by runs that stand in three columns of one length. Nothing is copied.
+pub fn judge_columns(
+    file: &[u8],
+    launch: u32,
+    marks: &[u8],
+    starts: &[u32],
+    ends: &[u32],
+    tasks: &[u32],
+) -> Judged
+    requires { OneLength starts ends tasks }
+    ensures { result ≡ judge_reply launch (plain_read file.now) marks.now (runs_before starts ends tasks) }
+{
+    judge_reading_columns(reading::read(file), launch, marks, starts, ends, tasks)
 }
 
 // Judging: any bytes, launch tick, marks and run list get the reply of documents 01 and 02.

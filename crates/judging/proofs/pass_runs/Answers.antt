@@ -1,25 +1,9 @@
-use Rattle.std.proofs.Common.{◌≡◌, ◌<◌, ◌^◌, sym, ◌∙◌, ℕ, Bool, true, get_or, arith}
-use borrow.Author.Tests.{ltb-true}
-use lib.Dec.{leb, ltb}
-use Rattle.base.specs.Tests.{and}
-use Rattle.base.proofs.TestLaws.{and_left}
-use Rattle.schedule.specs.declared.Job.{Job}
+use Rattle.std.proofs.Common.{◌<◌, ◌^◌, sym, ◌∙◌, get_or, arith}
 use Rattle.schedule.specs.JobArrays.{no_job}
 use Rattle.schedule.specs.Runs.{no_run}
-use Rattle.schedule.specs.Passing.{run_fits}
 use Rattle.schedule.proofs.PassLaws.{passed_start, passed_task, passed_run, passed_step, passed_all, passed_totals}
+use Rattle.judging.proofs.PassLaws.{run_in, fits_there}
 use Rattle.judging.proofs.pass_runs.Goals as goal
-
--- a run that fits is not empty
-run_in : (job : Job) (from start end : ℕ) → run_fits job from start end ≡ true → start < end
-unfolding run_fits
-run_in job from start end e =
-    ltb-true start end (and_left (ltb start end) (and (leb from start) (and (leb job.release start) (leb end job.deadline))) e)
-
--- whether a run fits its job, where the job is the one that stands at its task
-fits_there : (job there : Job) (from start end : ℕ) (said value : Bool) → job ≡ there → said ≡ run_fits job from start end → said ≡ value
-    → run_fits there from start end ≡ value
-fits_there job there from start end said value j e v = rw (← j) (sym e ∙ v)
 
 pub loop-run-init : goal.loop-run-init
 loop-run-init c = passed_start _ _ _

@@ -1,5 +1,5 @@
 -- `judging::table_verdict` meets its contract: each return knows the tests that led there, in their order.
-use Rattle.std.proofs.Common.{◌≡◌, ◌≤◌, ◌<◌, sym, ap, ◌∙◌, ℕ, List, true, false, get_or, length, take, eqb, arith, count_by}
+use Rattle.std.proofs.Common.{◌≡◌, ◌≤◌, ◌<◌, sym, ap, ◌∙◌, ℕ, List, Bool, true, false, get_or, length, take, eqb, ltb, arith, count_by}
 use Rattle.std.specs.List.{zip}
 use borrow.Author.Tests.{ltb-false}
 use lib.Seq.{get_or-take, length-take-le}
@@ -19,6 +19,7 @@ use Rattle.schedule.specs.Judging.{verdict, first_bad_mark, judge_declined, coun
 use Rattle.schedule.specs.Passing.{verdict_by_pass}
 use Rattle.schedule.proofs.JobLaws.{legal_frames}
 use Rattle.schedule.proofs.VerdictLaws.{pass_verdict, jobs_at, marked_same, launch_refused, length-refused, mark-refused, runs-refused, says-yes, says-no}
+use Rattle.judging.specs.Lending.{lent_runs}
 use Rattle.judging.proofs.ListLaws.{first_bad, none_bad, marked_is}
 use Rattle.judging.proofs.table_verdict.Goals as goal
 
@@ -30,6 +31,11 @@ reply_is e f = λ i. record { number = 0; place = 0; yes = true; kept = e i; dis
 -- the first mark above 1 of as many marks as there are tasks
 first_of : (marks : List ℕ) (n : ℕ) → length marks ≡ n → first_bad_mark marks (length marks) ≡ first_bad_mark marks n
 first_of marks n e = ap (first_bad_mark marks) e
+
+-- whether so many runs as are lent are too many
+many_is : (runs : List Run) (n : ℕ) (said value : Bool) → said ≡ ltb max_runs n → n ≡ length runs → said ≡ value → too_many runs ≡ value
+unfolding too_many
+many_is runs n said value s e v = rw (← e) (sym s ∙ v)
 
 -- The jobs that are lent are the first of the array, one a task.
 module _ (launch : ℕ) (t : Table) (few : t.count ≤ max_tasks) (all : List Job) (whole : all ≡ job_array launch t) (room : t.count ≤ length all) where
@@ -54,11 +60,11 @@ module _ (launch : ℕ) (t : Table) (few : t.count ≤ max_tasks) (all : List Jo
 
 pub returns-then-bad_launch : goal.returns-then-bad_launch
 returns-then-bad_launch c =
-    launch_refused c.args.launch c.args.table c.args.marks.now c.args.runs.now (sym c.bad_launch.ensures ∙ c.if-bad_launch.true)
+    launch_refused c.args.launch c.args.table c.args.marks.now (lent_runs c.args.runs) (sym c.bad_launch.ensures ∙ c.if-bad_launch.true)
 
 pub returns-then-marks-count : goal.returns-then-marks-count
 returns-then-marks-count c =
-    length-refused c.args.launch c.args.table c.args.marks.now c.args.runs.now (sym c.bad_launch.ensures ∙ c.if-bad_launch.false) c.if-marks-count.true
+    length-refused c.args.launch c.args.table c.args.marks.now (lent_runs c.args.runs) (sym c.bad_launch.ensures ∙ c.if-bad_launch.false) c.if-marks-count.true
 
 pub returns-in-Some : goal.returns-in-Some
 returns-in-Some c =
@@ -68,68 +74,66 @@ returns-in-Some c =
     let first = first_bad marks c.in-Some.bad (sym c.in-Some.ensures) in
     let bad : c.in-Some.bad ≡ first_bad_mark marks count = first.1 ∙ first_of marks count long in
     ap (judge_declined 11) bad
-    ∙ mark-refused c.args.launch c.args.table marks c.args.runs.now (sym c.bad_launch.ensures ∙ c.if-bad_launch.false) long (omega (arith, bad, first.0))
+    ∙ mark-refused c.args.launch c.args.table marks (lent_runs c.args.runs) (sym c.bad_launch.ensures ∙ c.if-bad_launch.false) long (omega (arith, bad, first.0))
 
 pub returns-then-too_many : goal.returns-then-too_many
-unfolding too_many
 returns-then-too_many c =
     let marks = c.args.marks.now in
     let count = c.args.table.count in
     let long : length marks ≡ count = c.if-marks-count.false in
     let good : count ≤ first_bad_mark marks count = omega (arith, none_bad marks (sym c.in_default.ensures), first_of marks count long) in
-    runs-refused c.args.launch c.args.table marks c.args.runs.now (sym c.bad_launch.ensures ∙ c.if-bad_launch.false) long good (sym c.too_many.ensures ∙ c.if-too_many.true)
+    runs-refused c.args.launch c.args.table marks (lent_runs c.args.runs) (sym c.bad_launch.ensures ∙ c.if-bad_launch.false) long good
+    (many_is _ _ _ _ c.too_many.ensures c.lent_count.ensures c.if-too_many.true)
 
 pub jobs_of-all-requires : goal.jobs_of-all-requires
 jobs_of-all-requires c =
     let accepted : bad_launch c.args.launch ≡ false = sym c.bad_launch.ensures ∙ c.if-bad_launch.false in
     let small : c.args.launch ≤ max_launch = ltb-false max_launch _ accepted in
     let t = c.args.table in
-    record { count_le_max_tasks = (legal_count c.requires).1; launch_le_max_launch = omega arith; q_value = c.requires.timed; by_index = legal_frames t c.requires }
+    record { count_le_max_tasks = (legal_count c.requires.legal).1; launch_le_max_launch = omega arith; q_value = c.requires.legal.timed; by_index = legal_frames t c.requires.legal }
 
 pub slice_bounds-all-end : goal.slice_bounds-all-end
-slice_bounds-all-end c = omega (arith, (legal_count c.requires).1)
+slice_bounds-all-end c = omega (arith, (legal_count c.requires.legal).1)
 
 pub slice_bounds-jobs-end : goal.slice_bounds-jobs-end
 slice_bounds-jobs-end c =
-    let few = (legal_count c.requires).1 in
+    let few = (legal_count c.requires.legal).1 in
     sym (length-take-le _ _ (omega (arith, few)))
 
 pub verdict_of-requires : goal.verdict_of-requires
 verdict_of-requires c =
-    let few = (legal_count c.requires).1 in
+    let few = (legal_count c.requires.legal).1 in
     let as_many = length-take-le c.args.table.count c.jobs_of-all.result (omega (arith, few)) in
-    let runs_few : length c.args.runs.now ≤ max_runs = ltb-false max_runs _ (sym c.too_many.ensures ∙ c.if-too_many.false) in
+    let few_runs = ltb-false max_runs _ (sym c.too_many.ensures ∙ c.if-too_many.false) in
     let long : length c.args.marks.now ≡ c.args.table.count = c.if-marks-count.false in
-    record { jobs_len = omega (arith, as_many, few); marks_len = long ∙ sym as_many; runs_len = runs_few }
+    record { jobs_len = omega (arith, as_many, few); marks_len = long ∙ sym as_many; whole = c.requires.whole; runs_len = omega (arith, few_runs, c.lent_count.ensures) }
 
 pub returns-then-verdict_of : goal.returns-then-verdict_of
-unfolding too_many
 returns-then-verdict_of c =
     let marks = c.args.marks.now in
     let t = c.args.table in
     let all = c.jobs_of-all.result in
-    let few = (legal_count c.requires).1 in
+    let few = (legal_count c.requires.legal).1 in
     let room : t.count ≤ length all = omega (arith, few) in
     let accepted : bad_launch c.args.launch ≡ false = sym c.bad_launch.ensures ∙ c.if-bad_launch.false in
     let long : length marks ≡ t.count = c.if-marks-count.false in
     let good : t.count ≤ first_bad_mark marks t.count = omega (arith, none_bad marks (sym c.in_default.ensures), first_of marks t.count long) in
-    let enough : too_many c.args.runs.now ≡ false = sym c.too_many.ensures ∙ c.if-too_many.false in
+    let enough = many_is (lent_runs c.args.runs) _ _ _ c.too_many.ensures c.lent_count.ensures c.if-too_many.false in
     let counted = counted_is c.args.launch t few all c.jobs_of-all.ensures room marks long in
-    let yes = sym (verdict_is c.args.launch t few all c.jobs_of-all.ensures room marks long c.args.runs.now) ∙ (sym c.verdict_of.ensures ∙ c.if-verdict_of.true) in
+    let yes = sym (verdict_is c.args.launch t few all c.jobs_of-all.ensures room marks long (lent_runs c.args.runs)) ∙ (sym c.verdict_of.ensures ∙ c.if-verdict_of.true) in
     reply_is (c.count_marked-kept.ensures ∙ counted 1) (c.count_marked-discarded.ensures ∙ counted 0)
-    ∙ says-yes c.args.launch t marks c.args.runs.now accepted long good enough yes
+    ∙ says-yes c.args.launch t marks (lent_runs c.args.runs) accepted long good enough yes
 
 pub returns : goal.returns
-unfolding too_many
 returns c =
     let marks = c.args.marks.now in
     let t = c.args.table in
     let all = c.jobs_of-all.result in
-    let few = (legal_count c.requires).1 in
+    let few = (legal_count c.requires.legal).1 in
     let room : t.count ≤ length all = omega (arith, few) in
     let accepted : bad_launch c.args.launch ≡ false = sym c.bad_launch.ensures ∙ c.if-bad_launch.false in
     let long : length marks ≡ t.count = c.if-marks-count.false in
     let good : t.count ≤ first_bad_mark marks t.count = omega (arith, none_bad marks (sym c.in_default.ensures), first_of marks t.count long) in
-    let enough : too_many c.args.runs.now ≡ false = sym c.too_many.ensures ∙ c.if-too_many.false in
-    let no = sym (verdict_is c.args.launch t few all c.jobs_of-all.ensures room marks long c.args.runs.now) ∙ (sym c.verdict_of.ensures ∙ c.if-verdict_of.false) in
-    says-no c.args.launch t marks c.args.runs.now accepted long good enough no
+    let enough = many_is (lent_runs c.args.runs) _ _ _ c.too_many.ensures c.lent_count.ensures c.if-too_many.false in
+    let no = sym (verdict_is c.args.launch t few all c.jobs_of-all.ensures room marks long (lent_runs c.args.runs)) ∙ (sym c.verdict_of.ensures ∙ c.if-verdict_of.false) in
+    says-no c.args.launch t marks (lent_runs c.args.runs) accepted long good enough no
