@@ -1,4 +1,4 @@
--- What judging comes to: a verdict, or a refusal with its number and its place. And the reply of either.
+-- For the proofs of the code alone: what judging comes to, a verdict, or a refusal with its number and its place; and the reply of either.
 use Rattle.std.specs.Prelude.{ℕ, true, false, Result, Ok, Err}
 use Rattle.table.specs.Answers.{refusal_number, refusal_place}
 use Rattle.schedule.specs.declared.Judged.{Judged}
