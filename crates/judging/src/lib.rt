@@ -313,30 +313,12 @@ fn reading_verdict(
     table_verdict(table, launch, marks, runs)
 }
 
-// Judging on the table of an accepted file by runs that are lent. Every judge of a table calls it.
-fn judged_table(table: Table, launch: u32, marks: &[u8], runs: Lent) -> Judged
-    requires legal { Legal table }
-    requires whole { LentWhole runs }
-    ensures { result ≡ judge_table launch table marks.now (lent_runs runs.entry) }
-{
-    reply(table_verdict(table, launch, marks, runs))
-}
-
-// Judging on what was read of a file by runs that are lent. Every judge of a file calls it.
-fn judged_reading(read: Result<Table, Refusal>, launch: u32, marks: &[u8], runs: Lent) -> Judged
-    requires legal { LegalRead (taken_from read) }
-    requires whole { LentWhole runs }
-    ensures { result ≡ judge_reply launch (taken_from read) marks.now (lent_runs runs.entry) }
-{
-    reply(reading_verdict(read, launch, marks, runs))
-}
-
 // Judging on the table of an accepted file, of whatever form.
 pub fn judge_table(table: Table, launch: u32, marks: &[u8], runs: &[Run]) -> Judged
     requires { Legal table }
     ensures { result ≡ judge_table launch table marks.now runs.now }
 {
-    judged_table(table, launch, marks, Lent::Records(runs))
+    reply(table_verdict(table, launch, marks, Lent::Records(runs)))
 }
 
 // Judging on the table of an accepted file, of whatever form, by runs that stand in three columns of one length.
@@ -352,8 +334,8 @@ pub fn judge_table_columns(
     requires one_length { OneLength starts ends tasks }
     ensures { result ≡ judge_table launch table marks.now (runs_before starts ends tasks) }
 {
-    let runs = Lent::Columns(starts, ends, tasks);
-    judged_table(table, launch, marks, runs)
+    let lent = Lent::Columns(starts, ends, tasks);
+    reply(table_verdict(table, launch, marks, lent))
 }
 
 // Judging on what was read of a file of whatever form. All judges of run records call it.
@@ -366,7 +348,7 @@ pub fn judge_reading(
     requires { LegalRead (taken_from read) }
     ensures { result ≡ judge_reply launch (taken_from read) marks.now runs.now }
 {
-    judged_reading(read, launch, marks, Lent::Records(runs))
+    reply(reading_verdict(read, launch, marks, Lent::Records(runs)))
 }
 
 // Judging on what was read of a file of whatever form, by runs that stand in three columns of one length: reading's refusals, then those of its table. All
@@ -383,7 +365,8 @@ pub fn judge_reading_columns(
     requires one_length { OneLength starts ends tasks }
     ensures { result ≡ judge_reply launch (taken_from read) marks.now (runs_before starts ends tasks) }
 {
-    judged_reading(read, launch, marks, Lent::Columns(starts, ends, tasks))
+    let lent = Lent::Columns(starts, ends, tasks);
+    reply(reading_verdict(read, launch, marks, lent))
 }
 
 // Judging a file by runs that stand in three columns of one length. Nothing is copied.
