@@ -208,19 +208,6 @@ fn pass_columns(
     Some(totals)
 }
 
-// The pass over runs that are lent.
-fn pass_lent(jobs: &[Job], runs: Lent) -> Option<[u64; MAX_TASKS]>
-    requires jobs_len { length jobs.now ≤ max_tasks }
-    requires whole { LentWhole runs }
-    requires runs_len { length (lent_runs runs) ≤ max_runs }
-    ensures { Passed (λ k. get_or jobs.now k no_job) (length jobs.now) (lent_runs runs.entry) result }
-{
-    match runs {
-        Lent::Records(runs) => pass_runs(jobs, runs),
-        Lent::Columns(starts, ends, tasks) => pass_columns(jobs, starts, ends, tasks),
-    }
-}
-
 // The work of a job under a mark: its mandatory ticks, plus its optional ticks where kept.
 fn work(job: Job, mark: u8) -> u64
     ensures { result ≡ work_of job mark }
@@ -251,16 +238,49 @@ fn count_marked(jobs: &[Job], marks: &[u8], mark: u8) -> u32
 }
 
 // All five conditions of a yes.
-fn verdict_of(jobs: &[Job], marks: &[u8], runs: Lent) -> bool
+fn verdict_of(jobs: &[Job], marks: &[u8], runs: &[Run]) -> bool
+    requires jobs_len { length jobs.now ≤ max_tasks }
+    requires marks_len { length marks.now ≡ length jobs.now }
+    requires runs_len { length runs.now ≤ max_runs }
+    ensures { result ≡ verdict_by_pass (λ k. get_or jobs.now k no_job) (length jobs.now) marks.now runs.now }
+{
+    match pass_runs(jobs, runs) {
+        Some(totals) => totals_exact(jobs, marks, &totals),
+        None => false,
+    }
+}
+
+// The same of runs that stand in columns.
+fn verdict_of_columns(
+    jobs: &[Job],
+    marks: &[u8],
+    starts: &[u32],
+    ends: &[u32],
+    tasks: &[u32],
+) -> bool
+    requires jobs_len { length jobs.now ≤ max_tasks }
+    requires marks_len { length marks.now ≡ length jobs.now }
+    requires one_length { OneLength starts ends tasks }
+    requires runs_len { length starts.now ≤ max_runs }
+    ensures { result ≡ verdict_by_pass (λ k. get_or jobs.now k no_job) (length jobs.now) marks.now (runs_before starts ends tasks) }
+{
+    match pass_columns(jobs, starts, ends, tasks) {
+        Some(ticks) => totals_exact(jobs, marks, &ticks),
+        None => false,
+    }
+}
+
+// The same of runs that are lent. The totals are looked at where the pass leaves them, so that they are not copied once more.
+fn verdict_lent(jobs: &[Job], marks: &[u8], runs: Lent) -> bool
     requires jobs_len { length jobs.now ≤ max_tasks }
     requires marks_len { length marks.now ≡ length jobs.now }
     requires whole { LentWhole runs }
     requires runs_len { length (lent_runs runs) ≤ max_runs }
     ensures { result ≡ verdict_by_pass (λ k. get_or jobs.now k no_job) (length jobs.now) marks.now (lent_runs runs.entry) }
 {
-    match pass_lent(jobs, runs) {
-        Some(totals) => totals_exact(jobs, marks, &totals),
-        None => false,
+    match runs {
+        Lent::Records(runs) => verdict_of(jobs, marks, runs),
+        Lent::Columns(starts, ends, tasks) => verdict_of_columns(jobs, marks, starts, ends, tasks),
     }
 }
 
@@ -290,7 +310,7 @@ fn table_verdict(
     }
     let all = schedule::jobs_of(table, launch);
     let jobs = &all[..count];
-    if verdict_of(jobs, marks, runs) {
+    if verdict_lent(jobs, marks, runs) {
         let kept = count_marked(jobs, marks, 1);
         let discarded = count_marked(jobs, marks, 0);
         return Ok(Verdict::Yes(kept, discarded));
@@ -334,8 +354,8 @@ pub fn judge_table_columns(
     requires one_length { OneLength starts ends tasks }
     ensures { result ≡ judge_table launch table marks.now (runs_before starts ends tasks) }
 {
-    let lent = Lent::Columns(starts, ends, tasks);
-    reply(table_verdict(table, launch, marks, lent))
+    let columns = Lent::Columns(starts, ends, tasks);
+    reply(table_verdict(table, launch, marks, columns))
 }
 
 // Judging on what was read of a file of whatever form. All judges of run records call it.

@@ -100,16 +100,16 @@ slice_bounds-jobs-end c =
     let few = (legal_count c.requires.legal).1 in
     sym (length-take-le _ _ (omega (arith, few)))
 
-pub verdict_of-requires : goal.verdict_of-requires
-verdict_of-requires c =
+pub verdict_lent-requires : goal.verdict_lent-requires
+verdict_lent-requires c =
     let few = (legal_count c.requires.legal).1 in
     let as_many = length-take-le c.args.table.count c.jobs_of-all.result (omega (arith, few)) in
     let few_runs = ltb-false max_runs _ (sym c.too_many.ensures ∙ c.if-too_many.false) in
     let long : length c.args.marks.now ≡ c.args.table.count = c.if-marks-count.false in
     record { jobs_len = omega (arith, as_many, few); marks_len = long ∙ sym as_many; whole = c.requires.whole; runs_len = omega (arith, few_runs, c.lent_count.ensures) }
 
-pub returns-then-verdict_of : goal.returns-then-verdict_of
-returns-then-verdict_of c =
+pub returns-then-verdict_lent : goal.returns-then-verdict_lent
+returns-then-verdict_lent c =
     let marks = c.args.marks.now in
     let t = c.args.table in
     let all = c.jobs_of-all.result in
@@ -120,7 +120,7 @@ returns-then-verdict_of c =
     let good : t.count ≤ first_bad_mark marks t.count = omega (arith, none_bad marks (sym c.in_default.ensures), first_of marks t.count long) in
     let enough = many_is (lent_runs c.args.runs) _ _ _ c.too_many.ensures c.lent_count.ensures c.if-too_many.false in
     let counted = counted_is c.args.launch t few all c.jobs_of-all.ensures room marks long in
-    let yes = sym (verdict_is c.args.launch t few all c.jobs_of-all.ensures room marks long (lent_runs c.args.runs)) ∙ (sym c.verdict_of.ensures ∙ c.if-verdict_of.true) in
+    let yes = sym (verdict_is c.args.launch t few all c.jobs_of-all.ensures room marks long (lent_runs c.args.runs)) ∙ (sym c.verdict_lent.ensures ∙ c.if-verdict_lent.true) in
     reply_is (c.count_marked-kept.ensures ∙ counted 1) (c.count_marked-discarded.ensures ∙ counted 0)
     ∙ says-yes c.args.launch t marks (lent_runs c.args.runs) accepted long good enough yes
 
@@ -135,5 +135,5 @@ returns c =
     let long : length marks ≡ t.count = c.if-marks-count.false in
     let good : t.count ≤ first_bad_mark marks t.count = omega (arith, none_bad marks (sym c.in_default.ensures), first_of marks t.count long) in
     let enough = many_is (lent_runs c.args.runs) _ _ _ c.too_many.ensures c.lent_count.ensures c.if-too_many.false in
-    let no = sym (verdict_is c.args.launch t few all c.jobs_of-all.ensures room marks long (lent_runs c.args.runs)) ∙ (sym c.verdict_of.ensures ∙ c.if-verdict_of.false) in
+    let no = sym (verdict_is c.args.launch t few all c.jobs_of-all.ensures room marks long (lent_runs c.args.runs)) ∙ (sym c.verdict_lent.ensures ∙ c.if-verdict_lent.false) in
     says-no c.args.launch t marks (lent_runs c.args.runs) accepted long good enough no
