@@ -68,7 +68,8 @@ mirrored_lowest releases deadlines mirrored n small t =
     sym
     (similar_mirrored (window_at releases deadlines j) (window_at releases deadlines k) (window_at releases mirrored j) (window_at releases mirrored k) (each j (omega arith)) (each k l))))
 
-pub mirrored_crossing : (releases deadlines mirrored : List ℕ) (n : ℕ) → ((k : ℕ) → k < n → get_or deadlines k 0 ≤ greatest_number) → Mirrored n deadlines mirrored
+pub mirrored_crossing : (releases deadlines mirrored : List ℕ) (n : ℕ) → ((k : ℕ) → k < n → get_or deadlines k 0 ≤ greatest_number)
+    → Mirrored n deadlines mirrored
     → found (fails_earlier nested (window_at releases mirrored)) n ≡ found (fails_earlier similar (window_at releases deadlines)) n
 unfolding found some_below
 mirrored_crossing releases deadlines mirrored n small t =

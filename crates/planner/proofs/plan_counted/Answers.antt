@@ -110,7 +110,8 @@ returns-in_default-keys_of_kind c =
     let neither = any_kind_neither c.args.file.now read.0 (rw read.1 at c.in_default-keys_of_kind.ensures.0) in
     let same = sym c.unwrap_err.ensures ∙ (c.window_answer.ensures ∙ (ap table_windows_answer read.1 ∙ neither.0)) in
     let gives =
-    refusal_gives c.args.launch c.args.file.now lent c.unwrap_err.result c.refused-in_default-keys_of_kind.result same c.refused-in_default-keys_of_kind.ensures in
+    refusal_gives c.args.launch c.args.file.now lent c.unwrap_err.result c.refused-in_default-keys_of_kind.result same
+    c.refused-in_default-keys_of_kind.ensures in
     record { count_value = gives.0; reply_value = gives.1.0; tasks_value = gives.1.1 }
 
 pub plan_table-planned-requires : goal.plan_table-planned-requires
