@@ -10,8 +10,8 @@
  * - A list that is lent for writing (no const) overlaps no other list of the same call. Lists that are only read may overlap or be the same.
  *
  * No call uses a heap, keeps anything between calls, or writes anything but the lists that it was lent and its reply. Calls on different lists may
- * run at the same time on different threads. A call needs less than 32 KB of stack, and one that takes a run list, which it copies, less than 128 KB
- * (by what was measured of the library as an older toolchain built it).
+ * run at the same time on different threads. A call needs less than 32 KB of stack, whatever the length of a run list,
+ * by what was measured (README, 'Speed and memory').
  *
  * Ticks are milliseconds. A frame lasts p/q ticks. Planning and judging take a launch tick, 0 to 86399999 (a day's last tick), where frame 0 begins:
  * it is added to every tick of the frame clock. The data of a frame are complete when it ends: a window holds the ticks from launch plus the least tick
