@@ -9,7 +9,8 @@
 // The last cases are about the comparison that this program makes itself. Such a line has runs that stand in an array, other runs, and the first index of a stretch
 // of the array and how many runs it has. What is printed is that index and how many the other runs are, and `other` where they are not those of the stretch.
 //
-// The runs of a case stand in an array, and its first runs are lent to the entry points.
+// The runs of a case stand in an array, and its first runs are lent to the entry points. They stand in three columns too, which are lent to the calls over
+// columns: where one of these answers otherwise, `other in columns` is printed.
 #![tactic(auto)]
 
 ghost use Rattle.std.specs.Prelude.{◌≤◌, length};
@@ -20,10 +21,20 @@ use schedule::{Busy, Judged, NO_RUN, Run, RunsRefusal, Stretch};
 // The places of an array of runs: one more than a run list may have, so that a list of too many is lent too.
 const PLACES: usize = MAX_RUNS + 1;
 
-// The runs of a case, from the field of their starts on, at the first places of an array, and how many there are.
-fn runs_at(line: &[u8], field: usize) -> ([Run; PLACES], usize)
+// Runs at the first places of an array, and in columns, and how many there are.
+#[derive(Clone, Copy)]
+struct Runs {
+    list: [Run; PLACES],
+    starts: [u32; PLACES],
+    ends: [u32; PLACES],
+    tasks: [u32; PLACES],
+    count: usize,
+}
+
+// The runs of a case, from the field of their starts on.
+fn runs_at(line: &[u8], field: usize) -> Runs
     requires { field ≤ 4 }
-    ensures { result.1 ≤ length result.0 }
+    ensures { result.count ≤ length result.list }
 {
     let mut starts = [0u32; PLACES];
     let mut ends = [0u32; PLACES];
@@ -31,15 +42,28 @@ fn runs_at(line: &[u8], field: usize) -> ([Run; PLACES], usize)
     let count = cases::numbers(line, field, &mut starts);
     cases::numbers(line, field + 1, &mut ends);
     cases::numbers(line, field + 2, &mut tasks);
-    let mut runs = [NO_RUN; PLACES];
-    for (i, run) in runs.iter_mut().enumerate() {
+    let mut list = [NO_RUN; PLACES];
+    for (i, run) in list.iter_mut().enumerate() {
         *run = Run {
             start: starts[i],
             end: ends[i],
             task: tasks[i],
         };
     }
-    (runs, count)
+    Runs {
+        list,
+        starts,
+        ends,
+        tasks,
+        count,
+    }
+}
+
+// Prints that a call over columns answers otherwise than that over the list, where it does.
+fn compare_columns(same: bool) {
+    if !same {
+        cases::text(b" other in columns");
+    }
 }
 
 // Prints the answer of judging.
@@ -63,8 +87,13 @@ fn judge(line: &[u8]) {
     let length = cases::file(line, 1, &mut file);
     let launch = cases::number(line, 2);
     let kept = cases::bytes(line, 3, &mut marks);
-    let (runs, count) = runs_at(line, 4);
-    show_verdict(judging::judge(&file[..length], launch, &marks[..kept], &runs[..count]));
+    let runs = runs_at(line, 4);
+    let n = runs.count;
+    let (file, marks) = (&file[..length], &marks[..kept]);
+    let reply = judging::judge(file, launch, marks, &runs.list[..n]);
+    let (starts, ends, tasks) = (&runs.starts[..n], &runs.ends[..n], &runs.tasks[..n]);
+    compare_columns(judging::judge_columns(file, launch, marks, starts, ends, tasks) == reply);
+    show_verdict(reply);
 }
 
 // Prints the answer of counting.
@@ -77,10 +106,14 @@ fn show_busy(reply: Busy) {
 
 // A case of counting.
 fn count(line: &[u8]) {
-    let (runs, count) = runs_at(line, 1);
+    let runs = runs_at(line, 1);
+    let n = runs.count;
     let a = cases::number(line, 4);
     let b = cases::number(line, 5);
-    show_busy(busy::busy(&runs[..count], a, b));
+    let reply = busy::busy(&runs.list[..n], a, b);
+    let (starts, ends, tasks) = (&runs.starts[..n], &runs.ends[..n], &runs.tasks[..n]);
+    compare_columns(busy::busy_columns(starts, ends, tasks, a, b) == reply);
+    show_busy(reply);
 }
 
 // The number and the place of an answer, which are 0 where nothing is refused.
@@ -124,20 +157,34 @@ fn show_stretch(runs: &[Run], stretch: Stretch, part: &[Run]) {
     cases::text(b"\n");
 }
 
+// What is asked of runs in columns is answered as it is of their list.
+fn asks_alike(runs: &Runs, tick: u32, a: u32, b: u32) -> bool
+    requires { runs.now.count ≤ length runs.now.list }
+{
+    let n = runs.count;
+    let list = &runs.list[..n];
+    let (starts, ends, tasks) = (&runs.starts[..n], &runs.ends[..n], &runs.tasks[..n]);
+    checking::check_columns(starts, ends) == queries::check(list)
+        && searching::run_at(starts, ends, tasks, tick) == queries::run_at(list, tick)
+        && searching::run_from(starts, ends, tasks, tick) == queries::run_from(list, tick)
+        && searching::stretch(starts, ends, a, b) == queries::stretch(list, a, b)
+}
+
 // A case of asking.
 fn ask(line: &[u8]) {
-    let (array, count) = runs_at(line, 1);
-    let runs = &array[..count];
+    let case = runs_at(line, 1);
+    let runs = &case.list[..case.count];
     let tick = cases::number(line, 4);
     let a = cases::number(line, 5);
     let b = cases::number(line, 6);
+    compare_columns(asks_alike(&case, tick, a, b));
     cases::show(b" # # at", &number_and_place(queries::check(runs).err()));
     show_found(queries::run_at(runs, tick));
     cases::text(b" from");
     show_found(queries::run_from(runs, tick));
     cases::text(b" touching");
     show_stretch(
-        &array,
+        &case.list,
         queries::stretch(runs, a, b),
         queries::touching(runs, a, b),
     );
@@ -145,13 +192,13 @@ fn ask(line: &[u8]) {
 
 // A case of the comparison that this program makes itself.
 fn compare(line: &[u8]) {
-    let (runs, _) = runs_at(line, 1);
-    let (part, count) = runs_at(line, 4);
+    let runs = runs_at(line, 1);
+    let part = runs_at(line, 4);
     let stretch = Stretch {
         first: cases::number(line, 7) as usize,
         runs: cases::number(line, 8) as usize,
     };
-    show_stretch(&runs, stretch, &part[..count]);
+    show_stretch(&runs.list, stretch, &part.list[..part.count]);
 }
 
 // The case on a line that starts with a given byte.
